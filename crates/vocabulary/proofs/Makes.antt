@@ -58,11 +58,9 @@ unfolding signature-when
 signature-refused n h = none-when _ _ h
 
 pub key-made : (k : KeyNumber) → Some k ≡ key-when (k .number)
-unfolding key-when
 key-made k = some-when _ (λ lawful. record { number = k .number; lawful = lawful }) (k .lawful)
 
 pub key-refused : (n : ℕ) → lawful-key n ≡ false → None ≡ key-when n
-unfolding key-when
 key-refused n h = none-when _ _ h
 
 pub imsi-made : (i : Imsi) → Some i ≡ imsi-when (i .digits) (i .len)

@@ -13,6 +13,13 @@ use Rattle.vocabulary.specs.declared.values.Tmsi.{Tmsi}
 use Rattle.vocabulary.specs.declared.values.Signature.{Signature}
 use Rattle.vocabulary.specs.declared.values.KeyNumber.{KeyNumber}
 
+-- the octets of 32 bits, and of 24, the highest first
+abbrev pub four-octets : ℕ → List ℕ
+four-octets n = (n / 16777216 % 256) ∷ (n / 65536 % 256) ∷ (n / 256 % 256) ∷ (n % 256) ∷ []
+
+abbrev pub three-octets : ℕ → List ℕ
+three-octets n = (n / 65536) ∷ (n / 256 % 256) ∷ (n % 256) ∷ []
+
 -- a temporary identity of 32 bits, where they are not the mark
 unfoldable pub tmsi-when : ℕ → Option Tmsi
 tmsi-when n = when (lawful-tmsi n) (λ lawful. record { bits = n; lawful = lawful })
@@ -22,7 +29,7 @@ abbrev pub tmsi-of : ℕ → ℕ → ℕ → ℕ → Option Tmsi
 tmsi-of a b c d = tmsi-when (a * 16777216 + b * 65536 + c * 256 + d)
 
 abbrev pub tmsi-octets : Tmsi → List ℕ
-tmsi-octets t = (t .bits / 16777216 % 256) ∷ (t .bits / 65536 % 256) ∷ (t .bits / 256 % 256) ∷ (t .bits % 256) ∷ []
+tmsi-octets t = four-octets (t .bits)
 
 -- a signature of 24 bits, where they are not the mark
 unfoldable pub signature-when : ℕ → Option Signature
@@ -33,10 +40,10 @@ abbrev pub signature-of : ℕ → ℕ → ℕ → Option Signature
 signature-of a b c = signature-when (a * 65536 + b * 256 + c)
 
 abbrev pub signature-octets : Signature → List ℕ
-signature-octets s = (s .bits / 65536) ∷ (s .bits / 256 % 256) ∷ (s .bits % 256) ∷ []
+signature-octets s = three-octets (s .bits)
 
 -- a key number, where it is not the mark
-unfoldable pub key-when : ℕ → Option KeyNumber
+abbrev pub key-when : ℕ → Option KeyNumber
 key-when n = when (lawful-key n) (λ lawful. record { number = n; lawful = lawful })
 
 -- the number that a key, or none, is written by

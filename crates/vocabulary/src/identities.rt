@@ -2,12 +2,32 @@
 ghost use mathlib.Core.Path.{_≡_};
 ghost use Prim.Native.Nat.{_<_};
 ghost use lib.ListN.{getD, length};
+ghost use Rattle.std.specs.declared.option.Option.the-variants.{Some};
 ghost use Rattle.vocabulary.specs.Marks.{place-fits, digits-then-filler, lawful-imsi};
-ghost use Rattle.vocabulary.specs.Identities.{tmsi-when, tmsi-octets, signature-when, signature-octets, key-when, key-written, imsi-when, imsi-from, imsi-octets, imsi-of, imsi-type, pair, places-of, digits-in};
+ghost use Rattle.vocabulary.specs.Identities.{four-octets, three-octets, tmsi-when, tmsi-of, tmsi-octets, signature-when, signature-of, signature-octets, key-when, key-written, imsi-when, imsi-from, imsi-octets, imsi-of, imsi-type, pair, places-of, digits-in};
 use crate::Imsi;
 use crate::KeyNumber;
 use crate::Signature;
 use crate::Tmsi;
+
+// The octets of 32 bits, the highest first.
+fn four_octets(bits: u32) -> [u8; 4]
+    ensures { λ r. ⌜ r ≡ four-octets bits ⌝ }
+{
+    bits.to_be_bytes()
+}
+
+// The octets of 24 bits, the highest first.
+fn three_octets(bits: u32) -> [u8; 3]
+    requires { ⌜ bits < 16777216 ⌝ }
+    ensures { λ r. ⌜ r ≡ three-octets bits ⌝ }
+{
+    [
+        (bits / 65536) as u8,
+        (bits / 256 % 256) as u8,
+        (bits % 256) as u8,
+    ]
+}
 
 impl Tmsi {
     // A temporary identity, unless the bits are the mark.
@@ -23,8 +43,9 @@ impl Tmsi {
 
     pub fn octets(self) -> [u8; 4]
         ensures value { λ r. ⌜ r ≡ tmsi-octets self ⌝ }
+        ensures back { λ r. ⌜ tmsi-of (getD r 0 0) (getD r 1 0) (getD r 2 0) (getD r 3 0) ≡ Some self ⌝ }
     {
-        self.bits.to_be_bytes()
+        four_octets(self.bits)
     }
 }
 
@@ -42,12 +63,9 @@ impl Signature {
 
     pub fn octets(self) -> [u8; 3]
         ensures value { λ r. ⌜ r ≡ signature-octets self ⌝ }
+        ensures back { λ r. ⌜ signature-of (getD r 0 0) (getD r 1 0) (getD r 2 0) ≡ Some self ⌝ }
     {
-        [
-            (self.bits / 65536) as u8,
-            (self.bits / 256 % 256) as u8,
-            (self.bits % 256) as u8,
-        ]
+        three_octets(self.bits)
     }
 }
 
@@ -66,6 +84,7 @@ impl KeyNumber {
     // The number that a key, or none, is written by.
     pub fn written(key: Option<KeyNumber>) -> u8
         ensures value { λ r. ⌜ r ≡ key-written key ⌝ }
+        ensures back { λ r. ⌜ key-when r ≡ key ⌝ }
     {
         match key {
             Some(key) => key.number,

@@ -1,6 +1,7 @@
 // Places and their octets.
 ghost use mathlib.Core.Path.{_≡_};
 ghost use lib.ListN.{getD};
+ghost use Rattle.std.specs.declared.option.Option.the-variants.{Some};
 ghost use Rattle.vocabulary.specs.Marks.{digit, lawful-plmn};
 ghost use Rattle.vocabulary.specs.Places.{plmn-when, lai-when, plmn-of, lai-of, rai-of, plmn-octets, lai-octets, rai-octets, third-half, third-of};
 use crate::Lai;
@@ -60,6 +61,7 @@ impl Plmn {
 
     pub fn octets(self) -> [u8; 3]
         ensures value { λ r. ⌜ r ≡ plmn-octets self ⌝ }
+        ensures back { λ r. ⌜ plmn-of (getD r 0 0) (getD r 1 0) (getD r 2 0) ≡ Some self ⌝ }
     {
         [
             self.mcc2 * 16 + self.mcc1,
@@ -92,14 +94,21 @@ impl Lai {
     // The octets of an area, or of none.
     pub fn octets(area: Option<Lai>) -> [u8; 5]
         ensures value { λ r. ⌜ r ≡ lai-octets area ⌝ }
+        ensures back { λ r. ⌜ lai-of (getD r 0 0) (getD r 1 0) (getD r 2 0) (getD r 3 0) (getD r 4 0) ≡ area ⌝ }
     {
-        let Some(area) = area else {
-            return [0xff, 0xff, 0xff, 0xff, 0xfe];
-        };
-        let [a, b, c] = area.plmn.octets();
-        let [d, e] = area.lac.to_be_bytes();
-        [a, b, c, d, e]
+        match area {
+            Some(area) => area_octets(area),
+            None => [0xff, 0xff, 0xff, 0xff, 0xfe],
+        }
     }
+}
+
+fn area_octets(area: Lai) -> [u8; 5]
+    ensures { λ r. ⌜ r ≡ lai-octets (Some area) ⌝ }
+{
+    let [a, b, c] = area.plmn.octets();
+    let [d, e] = area.lac.to_be_bytes();
+    [a, b, c, d, e]
 }
 
 impl Rai {
@@ -113,11 +122,13 @@ impl Rai {
 
     pub fn octets(area: Option<Rai>) -> [u8; 6]
         ensures value { λ r. ⌜ r ≡ rai-octets area ⌝ }
+        ensures back { λ r. ⌜ rai-of (getD r 0 0) (getD r 1 0) (getD r 2 0) (getD r 3 0) (getD r 4 0) (getD r 5 0) ≡ area ⌝ }
     {
-        let Some(area) = area else {
-            return [0xff, 0xff, 0xff, 0xff, 0xfe, 0xff];
+        let (lai, rac) = match area {
+            Some(area) => (Some(area.lai), area.rac),
+            None => (None, 0xff),
         };
-        let [a, b, c, d, e] = Lai::octets(Some(area.lai));
-        [a, b, c, d, e, area.rac]
+        let [a, b, c, d, e] = Lai::octets(lai);
+        [a, b, c, d, e, rac]
     }
 }
