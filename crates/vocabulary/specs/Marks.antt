@@ -3,6 +3,7 @@ use mathlib.Core.Bool.{Bool, true, false, not, cond, _&&_}
 use mathlib.Core.List.{List, [], _∷_}
 use Prim.Native.Nat.{ℕ, _+_}
 use lib.Dec.{ltb, leb, eqb}
+use lib.ListN.{length}
 use Rattle.std.specs.declared.option.Option.{Option}
 use Rattle.std.specs.declared.option.Option.the-variants.{Some, None}
 
@@ -46,4 +47,4 @@ digits-then-filler n i (d ∷ ds) = place-fits n i d && digits-then-filler n (i 
 
 -- an IMSI: 6 to 15 digits, in fifteen places
 abbrev pub lawful-imsi : List ℕ → ℕ → Bool
-lawful-imsi ds n = leb 6 n && (leb n 15 && digits-then-filler n 0 ds)
+lawful-imsi ds n = leb 6 n && (leb n 15 && (eqb (length ds) 15 && digits-then-filler n 0 ds))

@@ -1,7 +1,7 @@
 // Identities and keys, and their octets.
 ghost use mathlib.Core.Path.{_≡_};
 ghost use Prim.Native.Nat.{_<_};
-ghost use lib.ListN.{getD, length};
+ghost use lib.ListN.{getD, length, take, drop};
 ghost use Rattle.std.specs.declared.option.Option.the-variants.{Some};
 ghost use Rattle.vocabulary.specs.Marks.{place-fits, digits-then-filler, lawful-imsi};
 ghost use Rattle.vocabulary.specs.Identities.{four-octets, three-octets, tmsi-when, tmsi-of, tmsi-octets, signature-when, signature-of, signature-octets, key-when, key-written, imsi-when, imsi-from, imsi-octets, imsi-of, imsi-type, pair, places-of, digits-in};
@@ -114,7 +114,7 @@ fn digits_then_filler(len: usize, places: &[u8]) -> bool
 fn lawful_imsi(digits: &[u8], len: usize) -> bool
     ensures { λ r. ⌜ r ≡ lawful-imsi (now (digits .entry)) len ⌝ }
 {
-    len >= 6 && len <= 15 && digits_then_filler(len, digits)
+    len >= 6 && len <= 15 && digits.len() == 15 && digits_then_filler(len, digits)
 }
 
 fn imsi_when(digits: [u8; 15], len: usize) -> Option<Imsi>
@@ -205,6 +205,13 @@ impl Imsi {
     // The IMSI as a mobile identity: its length octet, the octets, and FF to nine.
     pub fn octets(self) -> [u8; 9]
         ensures value { λ r. ⌜ r ≡ imsi-octets self ⌝ }
+        ensures back { λ r. ⌜ imsi-of (take (getD r 0 0) (drop 1 r)) ≡ Some self ⌝ }
+    {
+        self.coded()
+    }
+
+    fn coded(self) -> [u8; 9]
+        ensures { λ r. ⌜ r ≡ imsi-octets self ⌝ }
     {
         let kind = if self.len % 2 == 1 { 9 } else { 1 };
         [
