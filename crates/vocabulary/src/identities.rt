@@ -3,7 +3,7 @@ ghost use mathlib.Core.Path.{_≡_};
 ghost use Prim.Native.Nat.{_<_};
 ghost use lib.ListN.{getD, length, take, drop};
 ghost use Rattle.std.specs.declared.option.Option.the-variants.{Some};
-ghost use Rattle.vocabulary.specs.Marks.{place-fits, digits-then-filler, lawful-imsi};
+ghost use Rattle.vocabulary.specs.Marks.{place-fits, digits-then-filler, lawful-imsi, lawful-tmsi, lawful-signature, lawful-key};
 ghost use Rattle.vocabulary.specs.Identities.{four-octets, three-octets, tmsi-when, tmsi-of, tmsi-octets, signature-when, signature-of, signature-octets, key-when, key-written, imsi-when, imsi-from, imsi-octets, imsi-of, imsi-type, pair, places-of, digits-in};
 use crate::Imsi;
 use crate::KeyNumber;
@@ -29,12 +29,18 @@ fn three_octets(bits: u32) -> [u8; 3]
     ]
 }
 
+fn lawful_tmsi(bits: u32) -> bool
+    ensures { λ r. ⌜ r ≡ lawful-tmsi bits ⌝ }
+{
+    bits < 0xffff_ffff
+}
+
 impl Tmsi {
     // A temporary identity, unless the bits are the mark.
     pub fn new(bits: u32) -> Option<Tmsi>
         ensures value { λ r. ⌜ r ≡ tmsi-when bits ⌝ }
     {
-        if bits < 0xffff_ffff {
+        if lawful_tmsi(bits) {
             Some(Tmsi { bits })
         } else {
             None
@@ -49,12 +55,18 @@ impl Tmsi {
     }
 }
 
+fn lawful_signature(bits: u32) -> bool
+    ensures { λ r. ⌜ r ≡ lawful-signature bits ⌝ }
+{
+    bits < 0xff_ffff
+}
+
 impl Signature {
     // A signature, unless the bits are the mark or more than 24.
     pub fn new(bits: u32) -> Option<Signature>
         ensures value { λ r. ⌜ r ≡ signature-when bits ⌝ }
     {
-        if bits < 0xff_ffff {
+        if lawful_signature(bits) {
             Some(Signature { bits })
         } else {
             None
@@ -69,12 +81,18 @@ impl Signature {
     }
 }
 
+fn lawful_key(number: u8) -> bool
+    ensures { λ r. ⌜ r ≡ lawful-key number ⌝ }
+{
+    number < 7
+}
+
 impl KeyNumber {
     // A key number, unless it is the mark or above it.
     pub fn new(number: u8) -> Option<KeyNumber>
         ensures value { λ r. ⌜ r ≡ key-when number ⌝ }
     {
-        if number < 7 {
+        if lawful_key(number) {
             Some(KeyNumber { number })
         } else {
             None

@@ -2,7 +2,7 @@
 ghost use mathlib.Core.Path.{_≡_};
 ghost use lib.ListN.{getD};
 ghost use Rattle.std.specs.declared.option.Option.the-variants.{Some};
-ghost use Rattle.vocabulary.specs.Marks.{digit, lawful-plmn};
+ghost use Rattle.vocabulary.specs.Marks.{lawful-plmn, lawful-lac};
 ghost use Rattle.vocabulary.specs.Places.{plmn-when, lai-when, plmn-of, lai-of, rai-of, plmn-octets, lai-octets, rai-octets, third-half, third-of};
 use crate::Lai;
 use crate::Plmn;
@@ -71,15 +71,21 @@ impl Plmn {
     }
 }
 
+fn lawful_lac(lac: u16) -> bool
+    ensures { λ r. ⌜ r ≡ lawful-lac lac ⌝ }
+{
+    lac != 0xfffe
+}
+
 impl Lai {
     // A location area of a network, unless its code is the mark.
     pub fn new(plmn: Plmn, lac: u16) -> Option<Lai>
         ensures value { λ r. ⌜ r ≡ lai-when plmn lac ⌝ }
     {
-        if lac == 0xfffe {
-            None
-        } else {
+        if lawful_lac(lac) {
             Some(Lai { plmn, lac })
+        } else {
+            None
         }
     }
 

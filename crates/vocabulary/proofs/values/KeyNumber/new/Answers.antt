@@ -1,9 +1,9 @@
-use Rattle.std.proofs.shelf.Tests.{le-ltb}
+use mathlib.Core.Path.{sym}
 use Rattle.vocabulary.proofs.Makes.{key-made, key-refused}
 use Rattle.vocabulary.proofs.values.KeyNumber.new.Needs as need
 
-pub returns-then-number-lt7 : need.returns-then-number-lt7
-returns-then-number-lt7 c = record { value = key-made _ }
+pub returns-then-lawful-key : need.returns-then-lawful-key
+returns-then-lawful-key c = record { value = key-made _ }
 
-pub returns-else-number-lt7 : need.returns-else-number-lt7
-returns-else-number-lt7 c = record { value = key-refused _ (le-ltb _ 7 (c .if-number-lt7 .left)) }
+pub returns-else-lawful-key : need.returns-else-lawful-key
+returns-else-lawful-key c = record { value = key-refused _ (sym (c .if-lawful-key .ensures tt)) }

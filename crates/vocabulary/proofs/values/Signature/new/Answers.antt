@@ -1,9 +1,9 @@
-use Rattle.std.proofs.shelf.Tests.{le-ltb}
+use mathlib.Core.Path.{sym}
 use Rattle.vocabulary.proofs.Makes.{signature-made, signature-refused}
 use Rattle.vocabulary.proofs.values.Signature.new.Needs as need
 
-pub returns-then-bits-lt16777215 : need.returns-then-bits-lt16777215
-returns-then-bits-lt16777215 c = record { value = signature-made _ }
+pub returns-then-lawful-signature : need.returns-then-lawful-signature
+returns-then-lawful-signature c = record { value = signature-made _ }
 
-pub returns-else-bits-lt16777215 : need.returns-else-bits-lt16777215
-returns-else-bits-lt16777215 c = record { value = signature-refused _ (le-ltb _ 16777215 (c .if-bits-lt16777215 .left)) }
+pub returns-else-lawful-signature : need.returns-else-lawful-signature
+returns-else-lawful-signature c = record { value = signature-refused _ (sym (c .if-lawful-signature .ensures tt)) }
