@@ -1,0 +1,14 @@
+// The frames of registration, after TS 24.008: those that the network sends are read, those that the modem sends are written.
+mod downlink;
+mod elements;
+mod faults;
+
+pub use downlink::Cause;
+pub use downlink::CircuitElements;
+pub use downlink::Downlink;
+pub use downlink::MobileIdentity;
+pub use downlink::PacketAccept;
+pub use downlink::PacketElements;
+pub use downlink::PlmnList;
+pub use faults::ElementFault;
+pub use faults::FrameFault;
