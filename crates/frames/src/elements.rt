@@ -1,76 +1,129 @@
-// The values of the elements that follow the fixed octets.
+// The elements that follow the fixed octets, taken one after the other.
 ghost use mathlib.Core.Path.{_≡_};
-ghost use Prim.Native.Nat.{_≤_, _%_};
+ghost use Prim.Native.Nat.{_≤_, _+_};
 ghost use lib.ListN.{length};
-ghost use Rattle.frames.specs.Values.{tmsi-value, identity-value, signature-value, timer-value, entry, plmns-value};
-use crate::MobileIdentity;
-use crate::PlmnList;
-use vocabulary::Imsi;
-use vocabulary::Plmn;
-use vocabulary::Signature;
-use vocabulary::Tmsi;
-use vocabulary::gprs_seconds;
+ghost use Rattle.frames.specs.Elements.{nothing, blame, noted, walk, packet-elements, circuit-elements};
+use crate::CircuitElements;
+use crate::ElementFault;
+use crate::PacketElements;
+use crate::element_values::identity_value;
+use crate::element_values::plmns_value;
+use crate::element_values::signature_value;
+use crate::element_values::timer_value;
+use crate::element_values::tmsi_value;
+use crate::found::Found;
+use crate::tags::Known;
+use crate::tags::Side;
+use crate::tags::Span;
+use crate::tags::meaning;
+use crate::tags::span_of;
 
-fn tmsi_value(value: &[u8]) -> Option<Tmsi>
-    ensures { λ r. ⌜ r ≡ tmsi-value (now (value .entry)) ⌝ }
+fn nothing() -> Found
+    ensures value { λ r. ⌜ r ≡ nothing ⌝ }
 {
-    let [0xf4, a, b, c, d] = value else {
-        return None;
-    };
-    Tmsi::new(u32::from_be_bytes([*a, *b, *c, *d]))
-}
-
-fn identity_value(value: &[u8]) -> Option<MobileIdentity>
-    ensures { λ r. ⌜ r ≡ identity-value (now (value .entry)) ⌝ }
-{
-    if let [0xf4, _, _, _, _] = value {
-        return Some(MobileIdentity::Tmsi(tmsi_value(value)?));
+    Found {
+        signature: None,
+        p_tmsi: None,
+        t3302: None,
+        identity: None,
+        equivalents: None,
+        bad: None,
+        low: None,
     }
-    Some(MobileIdentity::Imsi(Imsi::from_octets(value)?))
 }
 
-fn signature_value(value: &[u8]) -> Option<Signature>
-    ensures { λ r. ⌜ r ≡ signature-value (now (value .entry)) ⌝ }
+// The blame goes to the first bad value, unless the tag was there before.
+fn blame<T: Drop>(old: &Option<T>, new: &Option<T>, bad: Option<usize>, at: usize) -> Option<usize>
+    ensures value { λ r. ⌜ r ≡ blame (now (old .entry)) (now (new .entry)) bad at ⌝ }
 {
-    let [a, b, c] = value else {
-        return None;
-    };
-    Signature::new(u32::from(*a) * 65536 + u32::from(*b) * 256 + u32::from(*c))
+    if old.is_some() || new.is_some() { bad } else { bad.or(Some(at)) }
 }
 
-fn timer_value(value: &[u8]) -> Option<u32>
-    ensures { λ r. ⌜ r ≡ timer-value (now (value .entry)) ⌝ }
-{
-    let [octet] = value else {
-        return None;
-    };
-    Some(gprs_seconds(*octet))
-}
-
-// The network at a place of a list of whole networks; no entry past its end.
-fn entry_at(list: &[u8], place: usize) -> Option<Option<Plmn>>
-    requires few { ⌜ place ≤ 4 ⌝ }
-    requires whole { ⌜ length (now list) % 3 ≡ 0 ⌝ }
-    ensures { λ r. ⌜ r ≡ entry (now (list .entry)) place ⌝ }
-{
-    let at = 3 * place;
-    if at >= list.len() {
-        return Some(None);
+impl Found {
+    // What is found once the element at an octet is looked at.
+    fn noted(self, known: Known, value: &[u8], at: usize) -> Found
+        ensures value { λ r. ⌜ r ≡ noted known self (now (value .entry)) at ⌝ }
+    {
+        match known {
+            Known::PTmsiSignature => {
+                let new = signature_value(value);
+                let bad = blame(&self.signature, &new, self.bad, at);
+                Found { signature: self.signature.or(new), bad, ..self }
+            }
+            Known::PTmsi => {
+                let new = tmsi_value(value);
+                let bad = blame(&self.p_tmsi, &new, self.bad, at);
+                Found { p_tmsi: self.p_tmsi.or(new), bad, ..self }
+            }
+            Known::T3302 => {
+                let new = timer_value(value);
+                let bad = blame(&self.t3302, &new, self.bad, at);
+                Found { t3302: self.t3302.or(new), bad, ..self }
+            }
+            Known::Identity => {
+                let new = identity_value(value);
+                let bad = blame(&self.identity, &new, self.bad, at);
+                Found { identity: self.identity.or(new), bad, ..self }
+            }
+            Known::Equivalents => {
+                let new = plmns_value(value);
+                let bad = blame(&self.equivalents, &new, self.bad, at);
+                Found { equivalents: self.equivalents.or(new), bad, ..self }
+            }
+            Known::Skipped => self,
+            Known::BelowTen => Found { low: self.low.or(Some(at)), ..self },
+        }
     }
-    let plmn = Plmn::from_octets([list[at], list[at + 1], list[at + 2]])?;
-    Some(Some(plmn))
+
+    pub fn packet(self) -> Result<PacketElements, ElementFault>
+        ensures value { λ r. ⌜ r ≡ packet-elements self ⌝ }
+    {
+        if let Some(at) = self.bad {
+            return Err(ElementFault::BadValue(at));
+        }
+        if let Some(at) = self.low {
+            return Err(ElementFault::UnknownTag(at));
+        }
+        Ok(PacketElements {
+            signature: self.signature,
+            p_tmsi: self.p_tmsi,
+            t3302: self.t3302,
+            equivalents: self.equivalents,
+        })
+    }
+
+    pub fn circuit(self) -> Result<CircuitElements, ElementFault>
+        ensures value { λ r. ⌜ r ≡ circuit-elements self ⌝ }
+    {
+        if let Some(at) = self.bad {
+            return Err(ElementFault::BadValue(at));
+        }
+        if let Some(at) = self.low {
+            return Err(ElementFault::UnknownTag(at));
+        }
+        Ok(CircuitElements {
+            identity: self.identity,
+            equivalents: self.equivalents,
+        })
+    }
 }
 
-fn plmns_value(value: &[u8]) -> Option<PlmnList>
-    ensures { λ r. ⌜ r ≡ plmns-value (now (value .entry)) ⌝ }
+// Every element of a frame from the octet `start` on, or the octet at which the frame is cut short.
+pub fn walk(side: Side, elements: &[u8], start: usize) -> Result<Found, ElementFault>
+    requires { ⌜ start + length (now elements) ≤ 1000 ⌝ }
+    ensures value { λ r. ⌜ r ≡ walk side nothing start (now (elements .entry)) 0 ⌝ }
 {
-    if value.len() == 0 || value.len() > 15 || value.len() % 3 != 0 {
-        return None;
+    let mut found = nothing();
+    let mut rest = elements;
+    let mut at = start;
+    while let [tag, after @ ..] = rest {
+        let Span { from, to } = span_of(side, *tag, after);
+        if to > after.len() {
+            return Err(ElementFault::Cut(at + after.len() + 1));
+        }
+        found = found.noted(meaning(side, *tag), &after[from..to], at);
+        rest = &after[to..];
+        at = at + 1 + to;
     }
-    let first = entry_at(value, 0)?;
-    let second = entry_at(value, 1)?;
-    let third = entry_at(value, 2)?;
-    let fourth = entry_at(value, 3)?;
-    let fifth = entry_at(value, 4)?;
-    Some(PlmnList { entries: [first, second, third, fourth, fifth] })
+    Ok(found)
 }

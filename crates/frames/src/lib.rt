@@ -1,7 +1,10 @@
 // The frames of registration, after TS 24.008: those that the network sends are read, those that the modem sends are written.
 mod downlink;
+mod element_values;
 mod elements;
 mod faults;
+mod found;
+mod tags;
 
 pub use downlink::Cause;
 pub use downlink::CircuitElements;
