@@ -30,29 +30,59 @@ blame old new bad at = cond (isSome old || isSome new) bad (orOther bad (Some at
 -- what is found once an element at an octet is looked at: only the first of a tag counts
 abbrev pub noted : Known → Found → List ℕ → ℕ → Found
 noted PTmsiSignature f v at = record {
-  signature = orOther (f .signature) (signature-value v); «p_tmsi» = f .«p_tmsi»; t3302 = f .t3302; identity = f .identity;
-  equivalents = f .equivalents; bad = blame (f .signature) (signature-value v) (f .bad) at; low = f .low;
+  signature = orOther (f .signature) (signature-value v);
+  «p_tmsi» = f .«p_tmsi»;
+  t3302 = f .t3302;
+  identity = f .identity;
+  equivalents = f .equivalents;
+  bad = blame (f .signature) (signature-value v) (f .bad) at;
+  low = f .low;
 }
 noted PTmsi f v at = record {
-  signature = f .signature; «p_tmsi» = orOther (f .«p_tmsi») (tmsi-value v); t3302 = f .t3302; identity = f .identity;
-  equivalents = f .equivalents; bad = blame (f .«p_tmsi») (tmsi-value v) (f .bad) at; low = f .low;
+  signature = f .signature;
+  «p_tmsi» = orOther (f .«p_tmsi») (tmsi-value v);
+  t3302 = f .t3302;
+  identity = f .identity;
+  equivalents = f .equivalents;
+  bad = blame (f .«p_tmsi») (tmsi-value v) (f .bad) at;
+  low = f .low;
 }
 noted T3302 f v at = record {
-  signature = f .signature; «p_tmsi» = f .«p_tmsi»; t3302 = orOther (f .t3302) (timer-value v); identity = f .identity;
-  equivalents = f .equivalents; bad = blame (f .t3302) (timer-value v) (f .bad) at; low = f .low;
+  signature = f .signature;
+  «p_tmsi» = f .«p_tmsi»;
+  t3302 = orOther (f .t3302) (timer-value v);
+  identity = f .identity;
+  equivalents = f .equivalents;
+  bad = blame (f .t3302) (timer-value v) (f .bad) at;
+  low = f .low;
 }
 noted Identity f v at = record {
-  signature = f .signature; «p_tmsi» = f .«p_tmsi»; t3302 = f .t3302; identity = orOther (f .identity) (identity-value v);
-  equivalents = f .equivalents; bad = blame (f .identity) (identity-value v) (f .bad) at; low = f .low;
+  signature = f .signature;
+  «p_tmsi» = f .«p_tmsi»;
+  t3302 = f .t3302;
+  identity = orOther (f .identity) (identity-value v);
+  equivalents = f .equivalents;
+  bad = blame (f .identity) (identity-value v) (f .bad) at;
+  low = f .low;
 }
 noted Equivalents f v at = record {
-  signature = f .signature; «p_tmsi» = f .«p_tmsi»; t3302 = f .t3302; identity = f .identity;
-  equivalents = orOther (f .equivalents) (plmns-value v); bad = blame (f .equivalents) (plmns-value v) (f .bad) at; low = f .low;
+  signature = f .signature;
+  «p_tmsi» = f .«p_tmsi»;
+  t3302 = f .t3302;
+  identity = f .identity;
+  equivalents = orOther (f .equivalents) (plmns-value v);
+  bad = blame (f .equivalents) (plmns-value v) (f .bad) at;
+  low = f .low;
 }
 noted Skipped f v at = f
 noted BelowTen f v at = record {
-  signature = f .signature; «p_tmsi» = f .«p_tmsi»; t3302 = f .t3302; identity = f .identity;
-  equivalents = f .equivalents; bad = f .bad; low = orOther (f .low) (Some at);
+  signature = f .signature;
+  «p_tmsi» = f .«p_tmsi»;
+  t3302 = f .t3302;
+  identity = f .identity;
+  equivalents = f .equivalents;
+  bad = f .bad;
+  low = orOther (f .low) (Some at);
 }
 
 -- the walk over the elements, from the octet `at` on: `skip` octets still belong to the element before.

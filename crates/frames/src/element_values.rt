@@ -72,5 +72,7 @@ pub fn plmns_value(value: &[u8]) -> Option<PlmnList>
     let third = entry_at(value, 2)?;
     let fourth = entry_at(value, 3)?;
     let fifth = entry_at(value, 4)?;
-    Some(PlmnList { entries: [first, second, third, fourth, fifth] })
+    Some(PlmnList {
+        entries: [first, second, third, fourth, fifth],
+    })
 }

@@ -36,7 +36,11 @@ fn nothing() -> Found
 fn blame<T: Drop>(old: &Option<T>, new: &Option<T>, bad: Option<usize>, at: usize) -> Option<usize>
     ensures value { λ r. ⌜ r ≡ blame (now (old .entry)) (now (new .entry)) bad at ⌝ }
 {
-    if old.is_some() || new.is_some() { bad } else { bad.or(Some(at)) }
+    if old.is_some() || new.is_some() {
+        bad
+    } else {
+        bad.or(Some(at))
+    }
 }
 
 impl Found {
@@ -48,30 +52,53 @@ impl Found {
             Known::PTmsiSignature => {
                 let new = signature_value(value);
                 let bad = blame(&self.signature, &new, self.bad, at);
-                Found { signature: self.signature.or(new), bad, ..self }
+                Found {
+                    signature: self.signature.or(new),
+                    bad,
+                    ..self
+                }
             }
             Known::PTmsi => {
                 let new = tmsi_value(value);
                 let bad = blame(&self.p_tmsi, &new, self.bad, at);
-                Found { p_tmsi: self.p_tmsi.or(new), bad, ..self }
+                Found {
+                    p_tmsi: self.p_tmsi.or(new),
+                    bad,
+                    ..self
+                }
             }
             Known::T3302 => {
                 let new = timer_value(value);
                 let bad = blame(&self.t3302, &new, self.bad, at);
-                Found { t3302: self.t3302.or(new), bad, ..self }
+                Found {
+                    t3302: self.t3302.or(new),
+                    bad,
+                    ..self
+                }
             }
             Known::Identity => {
                 let new = identity_value(value);
                 let bad = blame(&self.identity, &new, self.bad, at);
-                Found { identity: self.identity.or(new), bad, ..self }
+                Found {
+                    identity: self.identity.or(new),
+                    bad,
+                    ..self
+                }
             }
             Known::Equivalents => {
                 let new = plmns_value(value);
                 let bad = blame(&self.equivalents, &new, self.bad, at);
-                Found { equivalents: self.equivalents.or(new), bad, ..self }
+                Found {
+                    equivalents: self.equivalents.or(new),
+                    bad,
+                    ..self
+                }
             }
             Known::Skipped => self,
-            Known::BelowTen => Found { low: self.low.or(Some(at)), ..self },
+            Known::BelowTen => Found {
+                low: self.low.or(Some(at)),
+                ..self
+            },
         }
     }
 

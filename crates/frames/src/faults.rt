@@ -52,6 +52,10 @@ impl FrameFault {
             FrameFault::Element(ElementFault::BadValue(octet)) => (14, octet),
             FrameFault::Element(ElementFault::UnknownTag(octet)) => (15, octet),
         };
-        Refusal { number, layer: Layer::Frame, octet }
+        Refusal {
+            number,
+            layer: Layer::Frame,
+            octet,
+        }
     }
 }

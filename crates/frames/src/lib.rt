@@ -4,6 +4,7 @@ mod element_values;
 mod elements;
 mod faults;
 mod found;
+mod reading;
 mod tags;
 
 pub use downlink::Cause;

@@ -78,7 +78,13 @@ pub fn span_of(side: Side, tag: u8, after: &[u8]) -> Span
 {
     match layout_of(side, tag) {
         Layout::Alone => Span { from: 0, to: 0 },
-        Layout::Fixed(octets) => Span { from: 0, to: octets },
-        Layout::Lengthed => Span { from: 1, to: 1 + usize::from(length_octet(after)) },
+        Layout::Fixed(octets) => Span {
+            from: 0,
+            to: octets,
+        },
+        Layout::Lengthed => Span {
+            from: 1,
+            to: 1 + usize::from(length_octet(after)),
+        },
     }
 }
