@@ -1,5 +1,6 @@
 pub mod Causes
 pub mod Decoded
+pub mod Drafts
 pub mod Elements
 pub mod Faults
 pub mod Octets

@@ -1,5 +1,6 @@
 // The frames of registration, after TS 24.008: those that the network sends are read, those that the modem sends are written.
 mod downlink;
+mod draft;
 mod element_values;
 mod elements;
 mod faults;
@@ -8,6 +9,7 @@ mod reading;
 mod tags;
 mod terminal;
 mod uplink;
+mod writing;
 
 pub use downlink::Cause;
 pub use downlink::CircuitElements;

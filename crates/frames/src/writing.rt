@@ -1,0 +1,145 @@
+// Writing the messages of the modem.
+ghost use mathlib.Core.Path.{_≡_};
+ghost use mathlib.Core.Bool.{cond};
+ghost use mathlib.Core.List.{_++_};
+ghost use Prim.Native.Nat.{_≤_, _+_};
+ghost use lib.ListN.{length};
+ghost use Rattle.frames.specs.Drafts.{drafted};
+ghost use Rattle.frames.specs.Octets.{octets-of, identity-octets, sent-p-tmsi, signature-element, attach-signature, key-and-type, routing-type, location-type, detach-type};
+ghost use Rattle.frames.specs.declared.uplink.Uplink.the-variants.{AttachRequest, UpdateRequest, DetachRequest, LocationRequest, DetachIndication};
+use crate::CircuitStored;
+use crate::LocationUpdate;
+use crate::PacketStored;
+use crate::RoutingUpdate;
+use crate::Terminal;
+use crate::draft::Draft;
+use vocabulary::Imsi;
+use vocabulary::KeyNumber;
+use vocabulary::Lai;
+use vocabulary::Rai;
+use vocabulary::Signature;
+use vocabulary::Tmsi;
+
+// A P-TMSI goes into a message only if the routing area is stored that it belongs to.
+fn sent_p_tmsi(stored: &PacketStored) -> Option<Tmsi>
+    ensures value { λ r. ⌜ r ≡ sent-p-tmsi (now (stored .entry)) ⌝ }
+{
+    match stored.rai {
+        Some(_) => stored.p_tmsi,
+        None => None,
+    }
+}
+
+fn key_and_type(key: Option<KeyNumber>, kind: u8) -> u8
+    requires { ⌜ kind ≤ 15 ⌝ }
+    ensures value { λ r. ⌜ r ≡ key-and-type key kind ⌝ }
+{
+    KeyNumber::written(key) * 16 + kind
+}
+
+fn routing_type(update: RoutingUpdate) -> u8
+    ensures value { λ r. ⌜ r ≡ routing-type update ⌝ }
+    ensures bound { λ r. ⌜ r ≤ 15 ⌝ }
+{
+    match update {
+        RoutingUpdate::Normal => 0,
+        RoutingUpdate::Periodic => 3,
+    }
+}
+
+fn location_type(update: LocationUpdate) -> u8
+    ensures value { λ r. ⌜ r ≡ location-type update ⌝ }
+    ensures bound { λ r. ⌜ r ≤ 15 ⌝ }
+{
+    match update {
+        LocationUpdate::Normal => 0,
+        LocationUpdate::Periodic => 1,
+        LocationUpdate::ImsiAttach => 2,
+    }
+}
+
+impl Draft {
+    fn put_identity(self, tmsi: Option<Tmsi>, imsi: Imsi) -> Draft
+        requires { ⌜ self .len ≤ 50 ⌝ }
+        ensures value { λ r. ⌜ drafted r ≡ drafted self ++ identity-octets tmsi imsi ⌝ }
+        ensures len { λ r. ⌜ r .len ≤ self .len + 9 ⌝ }
+    {
+        match tmsi {
+            Some(tmsi) => {
+                let [a, b, c, d] = tmsi.octets();
+                self.put(&[0x05, 0xf4, a, b, c, d])
+            }
+            None => {
+                let octets = imsi.octets();
+                let end = usize::from(octets[0]) + 1;
+                self.put(&octets[0..end])
+            }
+        }
+    }
+
+    fn put_signature(self, signature: Option<Signature>) -> Draft
+        requires { ⌜ self .len ≤ 60 ⌝ }
+        ensures value { λ r. ⌜ drafted r ≡ drafted self ++ signature-element signature ⌝ }
+        ensures len { λ r. ⌜ r .len ≤ self .len + 4 ⌝ }
+    {
+        match signature {
+            Some(signature) => {
+                let [a, b, c] = signature.octets();
+                self.put(&[0x19, a, b, c])
+            }
+            None => self,
+        }
+    }
+}
+
+fn attach_request(terminal: &Terminal, stored: &PacketStored) -> Draft
+    ensures value { λ r. ⌜ drafted r ≡ octets-of (AttachRequest (now (terminal .entry)) (now (stored .entry))) ⌝ }
+    ensures len { λ r. ⌜ r .len ≤ 64 ⌝ }
+{
+    let p_tmsi = sent_p_tmsi(stored);
+    let draft = Draft::empty()
+        .put(&[0x08, 0x01, 0x02])
+        .put(&terminal.capability)
+        .put(&[key_and_type(stored.key, 1)])
+        .put(&terminal.drx)
+        .put_identity(p_tmsi, stored.imsi)
+        .put(&Rai::octets(stored.rai))
+        .put(&[0x0c])
+        .put(&terminal.radio);
+    match p_tmsi {
+        Some(_) => draft.put_signature(stored.signature),
+        None => draft,
+    }
+}
+
+fn update_request(update: RoutingUpdate, terminal: &Terminal, stored: &PacketStored) -> Draft
+    ensures value { λ r. ⌜ drafted r ≡ octets-of (UpdateRequest update (now (terminal .entry)) (now (stored .entry))) ⌝ }
+    ensures len { λ r. ⌜ r .len ≤ 64 ⌝ }
+{
+    Draft::empty()
+        .put(&[0x08, 0x08, key_and_type(stored.key, routing_type(update))])
+        .put(&Rai::octets(stored.rai))
+        .put(&[0x0c])
+        .put(&terminal.radio)
+        .put_signature(stored.signature)
+}
+
+fn location_request(update: LocationUpdate, terminal: &Terminal, stored: &CircuitStored) -> Draft
+    ensures value { λ r. ⌜ drafted r ≡ octets-of (LocationRequest update (now (terminal .entry)) (now (stored .entry))) ⌝ }
+    ensures len { λ r. ⌜ r .len ≤ 64 ⌝ }
+{
+    Draft::empty()
+        .put(&[0x05, 0x08, key_and_type(stored.key, location_type(update))])
+        .put(&Lai::octets(stored.lai))
+        .put(&[terminal.classmark])
+        .put_identity(stored.tmsi, stored.imsi)
+}
+
+fn detach_indication(terminal: &Terminal, stored: &CircuitStored) -> Draft
+    ensures value { λ r. ⌜ drafted r ≡ octets-of (DetachIndication (now (terminal .entry)) (now (stored .entry))) ⌝ }
+    ensures len { λ r. ⌜ r .len ≤ 64 ⌝ }
+{
+    Draft::empty()
+        .put(&[0x05, 0x01, terminal.classmark])
+        .put_identity(stored.tmsi, stored.imsi)
+}
