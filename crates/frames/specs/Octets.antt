@@ -64,16 +64,20 @@ abbrev pub signature-element : Option Signature → List ℕ
 signature-element None = []
 signature-element (Some s) = 0x19 ∷ signature-octets s
 
--- in an attach the signature goes with the P-TMSI
-abbrev pub attach-signature : Option Tmsi → Option Signature → List ℕ
-attach-signature None s = []
-attach-signature (Some t) s = signature-element s
+-- in an attach request a signature goes only with a P-TMSI
+abbrev pub attach-signature : Option Tmsi → Option Signature → Option Signature
+attach-signature None s = None
+attach-signature (Some t) s = s
+
+-- an attach request up to the identity
+abbrev pub attach-front : Terminal → PacketStored → Option Tmsi → List ℕ
+attach-front t s p =
+    (0x08 ∷ 0x01 ∷ 0x02 ∷ []) ++ (t .capability ++ ((key-and-type (s .key) attach-type ∷ []) ++ (t .drx ++ identity-octets p (s .imsi))))
 
 abbrev pub octets-of : Uplink → List ℕ
 octets-of (AttachRequest t s) =
-    (0x08 ∷ 0x01 ∷ 0x02 ∷ []) ++ (t .capability ++ ((key-and-type (s .key) attach-type ∷ []) ++ (t .drx
-    ++ (identity-octets (sent-p-tmsi s) (s .imsi) ++ (rai-octets (s .rai) ++ ((0x0c ∷ []) ++ (t .radio
-    ++ attach-signature (sent-p-tmsi s) (s .signature))))))))
+    attach-front t s (sent-p-tmsi s)
+    ++ (rai-octets (s .rai) ++ ((0x0c ∷ []) ++ (t .radio ++ signature-element (attach-signature (sent-p-tmsi s) (s .signature)))))
 octets-of AttachComplete = 0x08 ∷ 0x03 ∷ []
 octets-of (DetachRequest d) = 0x08 ∷ 0x05 ∷ detach-type d ∷ []
 octets-of (UpdateRequest u t s) =

@@ -5,7 +5,7 @@ ghost use mathlib.Core.List.{_++_};
 ghost use Prim.Native.Nat.{_≤_, _+_};
 ghost use lib.ListN.{length};
 ghost use Rattle.frames.specs.Drafts.{drafted};
-ghost use Rattle.frames.specs.Octets.{octets-of, identity-octets, sent-p-tmsi, signature-element, attach-signature, key-and-type, routing-type, location-type, detach-type};
+ghost use Rattle.frames.specs.Octets.{octets-of, identity-octets, sent-p-tmsi, signature-element, attach-front, attach-signature, key-and-type, routing-type, location-type, detach-type};
 ghost use Rattle.frames.specs.declared.uplink.Uplink.the-variants.{AttachRequest, UpdateRequest, DetachRequest, LocationRequest, DetachIndication};
 use crate::CircuitStored;
 use crate::LocationUpdate;
@@ -26,6 +26,16 @@ fn sent_p_tmsi(stored: &PacketStored) -> Option<Tmsi>
 {
     match stored.rai {
         Some(_) => stored.p_tmsi,
+        None => None,
+    }
+}
+
+// In an attach request a signature goes only with a P-TMSI.
+fn attach_signature(p_tmsi: Option<Tmsi>, signature: Option<Signature>) -> Option<Signature>
+    ensures value { λ r. ⌜ r ≡ attach-signature «p_tmsi» signature ⌝ }
+{
+    match p_tmsi {
+        Some(_) => signature,
         None => None,
     }
 }
@@ -92,24 +102,30 @@ impl Draft {
     }
 }
 
-fn attach_request(terminal: &Terminal, stored: &PacketStored) -> Draft
-    ensures value { λ r. ⌜ drafted r ≡ octets-of (AttachRequest (now (terminal .entry)) (now (stored .entry))) ⌝ }
-    ensures len { λ r. ⌜ r .len ≤ 64 ⌝ }
+// An attach request up to the identity.
+fn attach_front(terminal: &Terminal, stored: &PacketStored, p_tmsi: Option<Tmsi>) -> Draft
+    ensures value { λ r. ⌜ drafted r ≡ attach-front (now (terminal .entry)) (now (stored .entry)) «p_tmsi» ⌝ }
+    ensures len { λ r. ⌜ r .len ≤ 17 ⌝ }
 {
-    let p_tmsi = sent_p_tmsi(stored);
-    let draft = Draft::empty()
+    Draft::empty()
         .put(&[0x08, 0x01, 0x02])
         .put(&terminal.capability)
         .put(&[key_and_type(stored.key, 1)])
         .put(&terminal.drx)
         .put_identity(p_tmsi, stored.imsi)
+}
+
+fn attach_request(terminal: &Terminal, stored: &PacketStored) -> Draft
+    ensures value { λ r. ⌜ drafted r ≡ octets-of (AttachRequest (now (terminal .entry)) (now (stored .entry))) ⌝ }
+    ensures len { λ r. ⌜ r .len ≤ 64 ⌝ }
+{
+    let p_tmsi = sent_p_tmsi(stored);
+    let signature = attach_signature(p_tmsi, stored.signature);
+    attach_front(terminal, stored, p_tmsi)
         .put(&Rai::octets(stored.rai))
         .put(&[0x0c])
-        .put(&terminal.radio);
-    match p_tmsi {
-        Some(_) => draft.put_signature(stored.signature),
-        None => draft,
-    }
+        .put(&terminal.radio)
+        .put_signature(signature)
 }
 
 fn update_request(update: RoutingUpdate, terminal: &Terminal, stored: &PacketStored) -> Draft
