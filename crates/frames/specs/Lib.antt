@@ -7,3 +7,4 @@ pub mod Octets
 pub mod Sizes
 pub mod Tags
 pub mod Values
+pub mod Written

@@ -16,7 +16,10 @@ impl Draft {
         ensures value { λ r. ⌜ drafted r ≡ [] ⌝ }
         ensures len { λ r. ⌜ r .len ≡ 0 ⌝ }
     {
-        Draft { octets: [0; 64], len: 0 }
+        Draft {
+            octets: [0; 64],
+            len: 0,
+        }
     }
 
     // The draft with one part more.
@@ -25,7 +28,10 @@ impl Draft {
         ensures value { λ r. ⌜ drafted r ≡ drafted self ++ now (part .entry) ⌝ }
         ensures len { λ r. ⌜ r .len ≡ self .len + length (now (part .entry)) ⌝ }
     {
-        let Draft { mut octets, len: start } = self;
+        let Draft {
+            mut octets,
+            len: start,
+        } = self;
         let end = start + part.len();
         octets[start..end].copy_from_slice(part);
         Draft { octets, len: end }

@@ -29,3 +29,4 @@ pub use uplink::PacketStored;
 pub use uplink::RoutingUpdate;
 pub use uplink::Uplink;
 pub use uplink::WriteFault;
+pub use writing::write;

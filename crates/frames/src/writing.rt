@@ -7,11 +7,15 @@ ghost use lib.ListN.{length};
 ghost use Rattle.frames.specs.Drafts.{drafted};
 ghost use Rattle.frames.specs.Octets.{octets-of, identity-octets, sent-p-tmsi, signature-element, attach-front, attach-signature, key-and-type, routing-type, location-type, detach-type};
 ghost use Rattle.frames.specs.declared.uplink.Uplink.the-variants.{AttachRequest, UpdateRequest, DetachRequest, LocationRequest, DetachIndication};
+ghost use Rattle.frames.specs.Written.{answered, over};
 use crate::CircuitStored;
+use crate::DetachType;
 use crate::LocationUpdate;
 use crate::PacketStored;
 use crate::RoutingUpdate;
 use crate::Terminal;
+use crate::Uplink;
+use crate::WriteFault;
 use crate::draft::Draft;
 use vocabulary::Imsi;
 use vocabulary::KeyNumber;
@@ -158,4 +162,50 @@ fn detach_indication(terminal: &Terminal, stored: &CircuitStored) -> Draft
     Draft::empty()
         .put(&[0x05, 0x01, terminal.classmark])
         .put_identity(stored.tmsi, stored.imsi)
+}
+
+fn detach_type(kind: DetachType) -> u8
+    ensures value { λ r. ⌜ r ≡ detach-type kind ⌝ }
+{
+    match kind {
+        DetachType::Gprs => 0x01,
+        DetachType::SwitchOff => 0x09,
+    }
+}
+
+fn draft_of(message: &Uplink) -> Draft
+    ensures value { λ r. ⌜ drafted r ≡ octets-of (now (message .entry)) ⌝ }
+    ensures len { λ r. ⌜ r .len ≤ 64 ⌝ }
+{
+    match message {
+        Uplink::AttachRequest(terminal, stored) => attach_request(terminal, stored),
+        Uplink::AttachComplete => Draft::empty().put(&[0x08, 0x03]),
+        Uplink::DetachRequest(kind) => Draft::empty().put(&[0x08, 0x05, detach_type(*kind)]),
+        Uplink::UpdateRequest(update, terminal, stored) => update_request(
+            *update,
+            terminal,
+            stored,
+        ),
+        Uplink::UpdateComplete => Draft::empty().put(&[0x08, 0x0a]),
+        Uplink::DetachIndication(terminal, stored) => detach_indication(terminal, stored),
+        Uplink::LocationRequest(update, terminal, stored) => location_request(
+            *update,
+            terminal,
+            stored,
+        ),
+        Uplink::TmsiComplete => Draft::empty().put(&[0x05, 0x1b]),
+    }
+}
+
+// Writes a message to the front of an area and answers its length; every later octet stays as it was.
+pub fn write(message: &Uplink, area: &mut [u8]) -> Result<usize, WriteFault>
+    ensures value { λ r. ⌜ r ≡ answered (octets-of (now (message .entry))) (now (area .entry)) ⌝ }
+    ensures after { λ r. ⌜ now (area .exit) ≡ over (octets-of (now (message .entry))) (now (area .entry)) ⌝ }
+{
+    let Draft { octets, len } = draft_of(message);
+    if area.len() < len {
+        return Err(WriteFault::NoRoom);
+    }
+    area[0..len].copy_from_slice(&octets[0..len]);
+    Ok(len)
 }

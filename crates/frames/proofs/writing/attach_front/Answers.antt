@@ -14,6 +14,6 @@ returns c =
     let begun = c .put .ensures .value ∙ ap (λ (l : List ℕ). l ++ head) (c .empty .ensures .value) in
     record {
       value = four-parts (drafted (c .put .result)) _ _ _ _ (t .capability) (c .key-and-type .result ∷ []) (t .drx) (identity-octets (c .args .p-tmsi) (c .args .stored .now .imsi)) (c .put-2 .ensures .value) (c .put-3 .ensures .value) (c .put-4 .ensures .value) (c .put-identity .ensures .value)
-        ∙ (λ k. begun k ++ (t .capability ++ ((c .key-and-type .ensures .value k ∷ []) ++ (t .drx ++ identity-octets (c .args .p-tmsi) (c .args .stored .now .imsi)))));
+          ∙ (λ k. begun k ++ (t .capability ++ ((c .key-and-type .ensures .value k ∷ []) ++ (t .drx ++ identity-octets (c .args .p-tmsi) (c .args .stored .now .imsi)))));
       len = omega arith;
     }

@@ -10,6 +10,6 @@ returns c =
     let copied = c .copy-from-slice .ensures .after in
     record {
       value = take-putMid (c .args .self .len) _ (c .args .self .octets) (c .copy-from-slice .last .self) _ (omega (arith, ap length copied)) (omega arith)
-        ∙ ap (λ part. take (c .args .self .len) (c .args .self .octets) ++ part) copied;
+          ∙ ap (λ part. take (c .args .self .len) (c .args .self .octets) ++ part) copied;
       len = refl;
     }
