@@ -2,6 +2,7 @@ pub mod Causes
 pub mod Decoded
 pub mod Drafts
 pub mod Elements
+pub mod Examples
 pub mod Faults
 pub mod Octets
 pub mod Sizes
