@@ -65,7 +65,7 @@ pub record Worked-examples : Type 0 where
   pub stopped-timer : gprs-seconds 0xe3 ≡ 0
   pub identity : mapped imsi-octets (imsi-from imsi-digits) ≡ Some imsi-identity
   pub location-request : mapped (λ i. octets-of (bare-location-request i)) (imsi-from imsi-digits)
-    ≡ Some ((0x05 ∷ 0x08 ∷ 0x70 ∷ 0xff ∷ 0xff ∷ 0xff ∷ 0xff ∷ 0xfe ∷ 0x33 ∷ []) ++ imsi-identity)
+      ≡ Some ((0x05 ∷ 0x08 ∷ 0x70 ∷ 0xff ∷ 0xff ∷ 0xff ∷ 0xff ∷ 0xfe ∷ 0x33 ∷ []) ++ imsi-identity)
   pub attach-accept : decoded attach-accept-octets ≡ Ok (AttachAccept (record {
     t3312 = 3240;
     rai = rai-001-01-1-5;

@@ -6,13 +6,13 @@ ghost use lib.ListN.{length};
 ghost use Rattle.frames.specs.Drafts.{drafted};
 
 #[derive(Clone, Copy)]
-pub struct Draft {
+pub(crate) struct Draft {
     pub octets: [u8; 64],
     pub len: usize,
 }
 
 impl Draft {
-    pub fn empty() -> Draft
+    pub(crate) fn empty() -> Draft
         ensures value { λ r. ⌜ drafted r ≡ [] ⌝ }
         ensures len { λ r. ⌜ r .len ≡ 0 ⌝ }
     {
@@ -23,7 +23,7 @@ impl Draft {
     }
 
     // The draft with one part more.
-    pub fn put(self, part: &[u8]) -> Draft
+    pub(crate) fn put(self, part: &[u8]) -> Draft
         requires { ⌜ self .len + length (now part) ≤ 64 ⌝ }
         ensures value { λ r. ⌜ drafted r ≡ drafted self ++ now (part .entry) ⌝ }
         ensures len { λ r. ⌜ r .len ≡ self .len + length (now (part .entry)) ⌝ }

@@ -11,7 +11,7 @@ use vocabulary::Signature;
 use vocabulary::Tmsi;
 use vocabulary::gprs_seconds;
 
-pub fn tmsi_value(value: &[u8]) -> Option<Tmsi>
+pub(crate) fn tmsi_value(value: &[u8]) -> Option<Tmsi>
     ensures { λ r. ⌜ r ≡ tmsi-value (now (value .entry)) ⌝ }
 {
     let [0xf4, a, b, c, d] = value else {
@@ -20,7 +20,7 @@ pub fn tmsi_value(value: &[u8]) -> Option<Tmsi>
     Tmsi::new(u32::from_be_bytes([*a, *b, *c, *d]))
 }
 
-pub fn identity_value(value: &[u8]) -> Option<MobileIdentity>
+pub(crate) fn identity_value(value: &[u8]) -> Option<MobileIdentity>
     ensures { λ r. ⌜ r ≡ identity-value (now (value .entry)) ⌝ }
 {
     if let [0xf4, _, _, _, _] = value {
@@ -29,7 +29,7 @@ pub fn identity_value(value: &[u8]) -> Option<MobileIdentity>
     Some(MobileIdentity::Imsi(Imsi::from_octets(value)?))
 }
 
-pub fn signature_value(value: &[u8]) -> Option<Signature>
+pub(crate) fn signature_value(value: &[u8]) -> Option<Signature>
     ensures { λ r. ⌜ r ≡ signature-value (now (value .entry)) ⌝ }
 {
     let [a, b, c] = value else {
@@ -38,7 +38,7 @@ pub fn signature_value(value: &[u8]) -> Option<Signature>
     Signature::new(u32::from(*a) * 65536 + u32::from(*b) * 256 + u32::from(*c))
 }
 
-pub fn timer_value(value: &[u8]) -> Option<u32>
+pub(crate) fn timer_value(value: &[u8]) -> Option<u32>
     ensures { λ r. ⌜ r ≡ timer-value (now (value .entry)) ⌝ }
 {
     let [octet] = value else {
@@ -61,7 +61,7 @@ fn entry_at(list: &[u8], place: usize) -> Option<Option<Plmn>>
     Some(Some(plmn))
 }
 
-pub fn plmns_value(value: &[u8]) -> Option<PlmnList>
+pub(crate) fn plmns_value(value: &[u8]) -> Option<PlmnList>
     ensures { λ r. ⌜ r ≡ plmns-value (now (value .entry)) ⌝ }
 {
     if value.len() == 0 || value.len() > 15 || value.len() % 3 != 0 {

@@ -102,7 +102,7 @@ impl Found {
         }
     }
 
-    pub fn packet(self) -> Result<PacketElements, ElementFault>
+    pub(crate) fn packet(self) -> Result<PacketElements, ElementFault>
         ensures value { λ r. ⌜ r ≡ packet-elements self ⌝ }
     {
         if let Some(at) = self.bad {
@@ -119,7 +119,7 @@ impl Found {
         })
     }
 
-    pub fn circuit(self) -> Result<CircuitElements, ElementFault>
+    pub(crate) fn circuit(self) -> Result<CircuitElements, ElementFault>
         ensures value { λ r. ⌜ r ≡ circuit-elements self ⌝ }
     {
         if let Some(at) = self.bad {
@@ -136,7 +136,7 @@ impl Found {
 }
 
 // Every element of a frame from the octet `start` on, or the octet at which the frame is cut short.
-pub fn walk(side: Side, elements: &[u8], start: usize) -> Result<Found, ElementFault>
+pub(crate) fn walk(side: Side, elements: &[u8], start: usize) -> Result<Found, ElementFault>
     requires { ⌜ start + length (now elements) ≤ 1000 ⌝ }
     ensures value { λ r. ⌜ r ≡ walk side nothing start (now (elements .entry)) 0 ⌝ }
 {

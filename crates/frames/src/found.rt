@@ -5,7 +5,7 @@ use vocabulary::Signature;
 use vocabulary::Tmsi;
 
 #[derive(Clone, Copy)]
-pub struct Found {
+pub(crate) struct Found {
     pub signature: Option<Signature>,
     pub p_tmsi: Option<Tmsi>,
     pub t3302: Option<u32>,

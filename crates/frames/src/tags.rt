@@ -6,14 +6,14 @@ ghost use Rattle.frames.specs.Tags.{layout-of, meaning, begin, end};
 
 // The two sides of registration.
 #[derive(Clone, Copy)]
-pub enum Side {
+pub(crate) enum Side {
     Packet,
     Circuit,
 }
 
 // What stands after a tag.
 #[derive(Clone, Copy)]
-pub enum Layout {
+pub(crate) enum Layout {
     Alone,
     Fixed(usize),
     Lengthed,
@@ -21,7 +21,7 @@ pub enum Layout {
 
 // What a tag means.
 #[derive(Clone, Copy)]
-pub enum Known {
+pub(crate) enum Known {
     PTmsiSignature,
     PTmsi,
     T3302,
@@ -42,7 +42,7 @@ fn layout_of(side: Side, tag: u8) -> Layout
     }
 }
 
-pub fn meaning(side: Side, tag: u8) -> Known
+pub(crate) fn meaning(side: Side, tag: u8) -> Known
     ensures { λ r. ⌜ r ≡ meaning side tag ⌝ }
 {
     match (side, tag) {
@@ -65,12 +65,12 @@ fn length_octet(after: &[u8]) -> u8
 
 // Where the value of an element begins and ends, counted from the octet after the tag.
 #[derive(Clone, Copy)]
-pub struct Span {
+pub(crate) struct Span {
     pub from: usize,
     pub to: usize,
 }
 
-pub fn span_of(side: Side, tag: u8, after: &[u8]) -> Span
+pub(crate) fn span_of(side: Side, tag: u8, after: &[u8]) -> Span
     ensures from { λ r. ⌜ r .from ≡ begin (layout-of side tag) ⌝ }
     ensures to { λ r. ⌜ r .to ≡ end (layout-of side tag) (now (after .entry)) ⌝ }
     ensures ordered { λ r. ⌜ r .from ≤ r .to ⌝ }
