@@ -54,16 +54,23 @@ area-in xs = rai-of (getD xs 0 0) (getD xs 1 0) (getD xs 2 0) (getD xs 3 0) (get
 abbrev pub lai-in : List ℕ → Option Lai
 lai-in xs = lai-of (getD xs 0 0) (getD xs 1 0) (getD xs 2 0) (getD xs 3 0) (getD xs 4 0)
 
--- attach accept: the result, 1 in the low half of octet 3; T3312; one octet; the routing area
+-- the results that are read: GPRS only attached, routing area updated
+abbrev pub gprs-attached : ℕ
+gprs-attached = 1
+
+abbrev pub area-updated : ℕ
+area-updated = 0
+
+-- attach accept: the result in the low half of octet 3; T3312; one octet; the routing area
 abbrev pub attach-accepted : ℕ → ℕ → Option Rai → Found → Result Downlink FrameFault
-attach-accepted result timer area f = cond (eqb (result % 16) 1) (packet-accept AttachAccept timer 6 area f) (Err (BadValue 3))
+attach-accepted result timer area f = cond (eqb (result % 16) gprs-attached) (packet-accept AttachAccept timer 6 area f) (Err (BadValue 3))
 
 abbrev pub attach-accept : List ℕ → Result Downlink FrameFault
 attach-accept xs = framed Packet 11 xs (attach-accepted (getD xs 2 0) (getD xs 3 0) (rai-of (getD xs 5 0) (getD xs 6 0) (getD xs 7 0) (getD xs 8 0) (getD xs 9 0) (getD xs 10 0)))
 
--- routing area update accept: the result, 0 in the high half of octet 3; T3312; the routing area
+-- routing area update accept: the result in the high half of octet 3; T3312; the routing area
 abbrev pub update-accepted : ℕ → ℕ → Option Rai → Found → Result Downlink FrameFault
-update-accepted result timer area f = cond (eqb (result / 16) 0) (packet-accept UpdateAccept timer 5 area f) (Err (BadValue 3))
+update-accepted result timer area f = cond (eqb (result / 16) area-updated) (packet-accept UpdateAccept timer 5 area f) (Err (BadValue 3))
 
 abbrev pub update-accept : List ℕ → Result Downlink FrameFault
 update-accept xs = framed Packet 10 xs (update-accepted (getD xs 2 0) (getD xs 3 0) (rai-of (getD xs 4 0) (getD xs 5 0) (getD xs 6 0) (getD xs 7 0) (getD xs 8 0) (getD xs 9 0)))

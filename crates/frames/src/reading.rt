@@ -2,7 +2,7 @@
 ghost use mathlib.Core.Path.{_≡_};
 ghost use Prim.Native.Nat.{_≤_};
 ghost use lib.ListN.{length};
-ghost use Rattle.frames.specs.Causes.{cause-of};
+ghost use Rattle.frames.specs.Causes.{cause-of, cause-number};
 ghost use Rattle.frames.specs.Decoded.{area-in, lai-in, attach-accepted, attach-accept, attach-rejected, attach-reject, detach-accepted, detach-accept, update-accepted, update-accept, update-rejected, update-reject, location-accepted, location-accept, location-rejected, location-reject, decoded};
 use crate::Cause;
 use crate::Downlink;
@@ -17,7 +17,8 @@ use vocabulary::Rai;
 use vocabulary::gprs_seconds;
 
 fn cause_of(octet: u8) -> Cause
-    ensures { λ r. ⌜ r ≡ cause-of octet ⌝ }
+    ensures value { λ r. ⌜ r ≡ cause-of octet ⌝ }
+    ensures back { λ r. ⌜ cause-number r ≡ octet ⌝ }
 {
     match octet {
         2 => Cause::ImsiUnknownInHlr,
