@@ -4,6 +4,7 @@ pub mod Drafts
 pub mod Elements
 pub mod Examples
 pub mod Faults
+pub mod Laws
 pub mod Octets
 pub mod Sizes
 pub mod Tags
