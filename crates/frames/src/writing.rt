@@ -5,9 +5,11 @@ ghost use mathlib.Core.List.{_++_};
 ghost use Prim.Native.Nat.{_≤_, _+_};
 ghost use lib.ListN.{length};
 ghost use Rattle.frames.specs.Drafts.{drafted};
+ghost use Rattle.frames.specs.Laws.{LaidOut};
 ghost use Rattle.frames.specs.Octets.{octets-of, identity-octets, sent-p-tmsi, signature-element, attach-front, attach-signature, key-and-type, routing-type, location-type, detach-type};
 ghost use Rattle.frames.specs.declared.uplink.Uplink.the-variants.{AttachRequest, UpdateRequest, DetachRequest, LocationRequest, DetachIndication};
 ghost use Rattle.frames.specs.Written.{answered, over};
+ghost use Rattle.std.specs.Vec.{made};
 use crate::CircuitStored;
 use crate::DetachType;
 use crate::LocationUpdate;
@@ -201,6 +203,7 @@ fn draft_of(message: &Uplink) -> Draft
 pub fn write(message: &Uplink, area: &mut [u8]) -> Result<usize, WriteFault>
     ensures value { λ r. ⌜ r ≡ answered (octets-of (now (message .entry))) (now (area .entry)) ⌝ }
     ensures after { λ r. ⌜ now (area .exit) ≡ over (octets-of (now (message .entry))) (now (area .entry)) ⌝ }
+    ensures layout { λ r. ⌜ made r (λ n. LaidOut (now (message .entry)) n (now (area .exit))) ⌝ }
 {
     let Draft { octets, len } = draft_of(message);
     if area.len() < len {

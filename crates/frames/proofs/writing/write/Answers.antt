@@ -1,11 +1,13 @@
 use mathlib.Core.Path.{_≡_, refl, sym, ap, _∙_}
+use mathlib.Core.List.{_++_}
 use Prim.Native.Nat.{_-_}
 use native.Mathlib.Omega.{arith}
 use native.Mathlib.Nat.{sub-zero}
-use lib.ListN.{length, take}
+use lib.ListN.{length, take, drop}
 use Rattle.std.proofs.shelf.Lists.{length-take-le}
 use Rattle.frames.specs.Octets.{octets-of}
 use Rattle.frames.proofs.Chains.{answered-room, over-room}
+use Rattle.frames.proofs.LawsWritten.{layout-long, kind-first}
 use Rattle.frames.proofs.writing.write.Needs as need
 
 pub returns : need.returns
@@ -18,4 +20,8 @@ returns c =
     record {
       value = answered-room m (c .args .area .now) m (d .len) (d .len) long refl refl (c .if-area-len .left);
       after = over-room m (c .args .area .now) (c .copy-from-slice .last .self) (d .len) (d .len - 0) long copied (sub-zero (d .len)) (c .if-area-len .left);
+      layout = record {
+        long = sym long ∙ layout-long (c .args .message .now);
+        kind = ap (λ xs. take 2 (xs ++ drop (d .len - 0) (c .args .area .now))) copied ∙ kind-first (c .args .message .now) _;
+      };
     }
