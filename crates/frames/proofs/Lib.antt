@@ -1,3 +1,5 @@
 pub mod Walks
 pub mod Chains
 pub mod LawsWritten
+pub mod LawsElements
+pub mod LawsRead

@@ -1,21 +1,117 @@
 -- What holds of every frame that is read and of every message that is written, said apart from how either is done.
-use mathlib.Core.Logic.{_⊎_}
+use mathlib.Core.Logic.{_⊎_, _≢_}
 use mathlib.Core.Path.{_≡_}
-use mathlib.Core.List.{List, [], _∷_}
-use Prim.Native.Nat.{ℕ, _+_, _/_, _<_}
-use lib.ListN.{length, take}
+use mathlib.Core.List.{List, [], _∷_, _++_}
+use Prim.Native.Nat.{ℕ, _+_, _/_, _<_, _≤_}
+use lib.ListN.{length, take, drop}
 use Rattle.std.specs.declared.option.Option.{Option}
 use Rattle.std.specs.declared.option.Option.the-variants.{Some, None}
 use Rattle.vocabulary.specs.declared.values.Imsi.{Imsi}
+use Rattle.vocabulary.specs.declared.values.Lai.{Lai}
 use Rattle.vocabulary.specs.declared.values.Rai.{Rai}
 use Rattle.vocabulary.specs.declared.values.Signature.{Signature}
 use Rattle.vocabulary.specs.declared.values.Tmsi.{Tmsi}
+use Rattle.frames.specs.declared.downlink.CircuitElements.{CircuitElements}
+use Rattle.frames.specs.declared.downlink.Downlink.{Downlink}
+use Rattle.frames.specs.declared.downlink.Downlink.the-variants.{AttachAccept, AttachReject, DetachAccept, UpdateAccept, UpdateReject, LocationAccept, LocationReject}
+use Rattle.frames.specs.declared.downlink.MobileIdentity.{MobileIdentity}
+use Rattle.frames.specs.declared.downlink.MobileIdentity.the-variants as identity
+use Rattle.frames.specs.declared.downlink.PacketElements.{PacketElements}
+use Rattle.frames.specs.declared.tags.Side.{Side}
+use Rattle.frames.specs.declared.tags.Side.the-variants.{Packet, Circuit}
 use Rattle.frames.specs.declared.uplink.Uplink.{Uplink}
 use Rattle.frames.specs.declared.uplink.Uplink.the-variants.{AttachRequest, AttachComplete, DetachRequest, UpdateRequest, UpdateComplete, DetachIndication, LocationRequest, TmsiComplete}
 
 -- under 2 or over 251 octets
 abbrev pub WrongLength : List ℕ → Type 0
 WrongLength xs = (length xs < 2) ⊎ (251 < length xs)
+
+-- the protocol of a frame and its type
+abbrev pub frame-kind : Downlink → List ℕ
+frame-kind (AttachAccept a) = 0x08 ∷ 0x02 ∷ []
+frame-kind (AttachReject c es) = 0x08 ∷ 0x04 ∷ []
+frame-kind (DetachAccept es) = 0x08 ∷ 0x06 ∷ []
+frame-kind (UpdateAccept a) = 0x08 ∷ 0x09 ∷ []
+frame-kind (UpdateReject c es) = 0x08 ∷ 0x0b ∷ []
+frame-kind (LocationAccept a es) = 0x05 ∷ 0x02 ∷ []
+frame-kind (LocationReject c es) = 0x05 ∷ 0x04 ∷ []
+
+-- the octets before the first element
+abbrev pub fixed-octets : Downlink → ℕ
+fixed-octets (AttachAccept a) = 11
+fixed-octets (AttachReject c es) = 3
+fixed-octets (DetachAccept es) = 3
+fixed-octets (UpdateAccept a) = 10
+fixed-octets (UpdateReject c es) = 4
+fixed-octets (LocationAccept a es) = 7
+fixed-octets (LocationReject c es) = 3
+
+abbrev pub side-of : Downlink → Side
+side-of (AttachAccept a) = Packet
+side-of (AttachReject c es) = Packet
+side-of (DetachAccept es) = Packet
+side-of (UpdateAccept a) = Packet
+side-of (UpdateReject c es) = Packet
+side-of (LocationAccept a es) = Circuit
+side-of (LocationReject c es) = Circuit
+
+-- the tags without a length octet: P-TMSI signature, ready timer and GMM cause
+abbrev pub Unlengthed : Side → ℕ → Type 0
+Unlengthed Packet tag = (tag ≡ 0x19) ⊎ ((tag ≡ 0x17) ⊎ (tag ≡ 0x25))
+Unlengthed Circuit tag = ⊥
+
+-- the octets after a tag, all of them
+pub data Part : Side → ℕ → List ℕ → Type 0 where
+  alone : {side : Side} {tag : ℕ} → 0x80 ≤ tag → Part side tag []
+  signature : (a b c : ℕ) → Part Packet 0x19 (a ∷ b ∷ c ∷ [])
+  ready-timer : (a : ℕ) → Part Packet 0x17 (a ∷ [])
+  gmm-cause : (a : ℕ) → Part Packet 0x25 (a ∷ [])
+  lengthed : {side : Side} {tag : ℕ} → tag < 0x80 → (Unlengthed side tag → ⊥) → (value : List ℕ) → Part side tag (length value ∷ value)
+
+-- element after element, each of them whole
+pub data Elements : Side → List ℕ → Type 0 where
+  none : {side : Side} → Elements side []
+  more : {side : Side} {tag : ℕ} {part rest : List ℕ} → Part side tag part → Elements side rest → Elements side (tag ∷ (part ++ rest))
+
+-- an area code that is not the mark FFFE
+abbrev pub NoMarkArea : Lai → Type 0
+NoMarkArea a = a .lac ≢ 0xfffe
+
+-- 32 bits that are not all ones
+abbrev pub NoMarkTmsi : Option Tmsi → Type 0
+NoMarkTmsi (Some t) = t .bits ≢ 0xffff_ffff
+NoMarkTmsi None = Unit {0}
+
+-- 24 bits that are not all ones
+abbrev pub NoMarkSignature : Option Signature → Type 0
+NoMarkSignature (Some g) = g .bits ≢ 0xff_ffff
+NoMarkSignature None = Unit {0}
+
+abbrev pub NoMarkIdentity : Option MobileIdentity → Type 0
+NoMarkIdentity (Some (identity.Tmsi t)) = NoMarkTmsi (Some t)
+NoMarkIdentity (Some (identity.Imsi i)) = Unit {0}
+NoMarkIdentity None = Unit {0}
+
+abbrev pub NoMarksPacket : PacketElements → Type 0
+NoMarksPacket es = NoMarkSignature (es .signature) × NoMarkTmsi (es .«p_tmsi»)
+
+-- a mark says that there is no value, and is not taken as one
+abbrev pub NoMarks : Downlink → Type 0
+NoMarks (AttachAccept a) = NoMarkArea (a .rai .lai) × NoMarksPacket (a .elements)
+NoMarks (AttachReject c es) = NoMarksPacket es
+NoMarks (DetachAccept es) = NoMarksPacket es
+NoMarks (UpdateAccept a) = NoMarkArea (a .rai .lai) × NoMarksPacket (a .elements)
+NoMarks (UpdateReject c es) = NoMarksPacket es
+NoMarks (LocationAccept a es) = NoMarkArea a × NoMarkIdentity (es .identity)
+NoMarks (LocationReject c es) = NoMarkIdentity (es .identity)
+
+-- what is read out of a frame obeys the layout
+pub record Obeys (m : Downlink) (xs : List ℕ) : Type 0 where
+  pub within : (2 ≤ length xs) × (length xs ≤ 251)
+  pub kind : take 2 xs ≡ frame-kind m
+  pub fixed : fixed-octets m ≤ length xs
+  pub elements : Elements (side-of m) (drop (fixed-octets m) xs)
+  pub no-marks : NoMarks m
 
 -- the protocol of a message and its type
 abbrev pub message-kind : Uplink → List ℕ

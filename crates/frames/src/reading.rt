@@ -4,8 +4,9 @@ ghost use Prim.Native.Nat.{_≤_};
 ghost use lib.ListN.{length};
 ghost use Rattle.frames.specs.Causes.{cause-of, cause-number};
 ghost use Rattle.frames.specs.Decoded.{area-in, lai-in, attach-accepted, attach-accept, attach-rejected, attach-reject, detach-accepted, detach-accept, update-accepted, update-accept, update-rejected, update-reject, location-accepted, location-accept, location-rejected, location-reject, decoded};
-ghost use Rattle.frames.specs.Laws.{WrongLength};
+ghost use Rattle.frames.specs.Laws.{WrongLength, Obeys};
 ghost use Rattle.frames.specs.declared.faults.FrameFault.the-variants.{Length};
+ghost use Rattle.std.specs.Vec.{made};
 ghost use Rattle.std.specs.declared.result.Result.the-variants.{Err};
 use crate::Cause;
 use crate::Downlink;
@@ -205,6 +206,7 @@ fn location_reject(frame: &[u8]) -> Result<Downlink, FrameFault>
 pub fn read(frame: &[u8]) -> Result<Downlink, FrameFault>
     ensures value { λ r. ⌜ r ≡ decoded (now (frame .entry)) ⌝ }
     ensures refused { λ r. ⌜ (WrongLength (now (frame .entry)) → r ≡ Err Length) ⌝ }
+    ensures layout { λ r. ⌜ made r (λ m. Obeys m (now (frame .entry))) ⌝ }
 {
     if frame.len() < 2 || frame.len() > 251 {
         return Err(FrameFault::Length);

@@ -1,0 +1,191 @@
+-- What is read out of a frame obeys the layout.
+use mathlib.Core.Path.{_≡_, refl, sym, ap, subst, _∙_}
+use mathlib.Core.Bool.{true, cond}
+use mathlib.Core.List.{List, [], _∷_}
+use Prim.Native.Nat.{ℕ, zero, suc, _+_, _/_, _%_, _≤_, _<_}
+use native.Mathlib.Omega.{arith}
+use lib.Dec.{ltb, eqb}
+use lib.ListN.{length, take, drop, getD}
+use Rattle.std.proofs.shelf.Lists.{drop-more, take-rest}
+use Rattle.std.proofs.shelf.Tests.{cond-both, ltb-false, eqb-true, and-parts}
+use Rattle.std.proofs.shelf.Ways.{tells}
+use Rattle.std.specs.Holes.{between}
+use Rattle.std.specs.Vec.{made}
+use Rattle.std.specs.declared.option.Option.{Option}
+use Rattle.std.specs.declared.option.Option.the-variants.{Some, None}
+use Rattle.std.specs.declared.result.Result.{Result}
+use Rattle.std.specs.declared.result.Result.the-variants.{Ok, Err}
+use Rattle.vocabulary.specs.Places.{rai-of, lai-of}
+use Rattle.vocabulary.specs.Timers.{gprs-seconds}
+use Rattle.vocabulary.specs.declared.values.Lai.{Lai}
+use Rattle.vocabulary.specs.declared.values.Rai.{Rai}
+use Rattle.vocabulary.specs.declared.values.Signature.{Signature}
+use Rattle.vocabulary.specs.declared.values.Tmsi.{Tmsi}
+use Rattle.frames.specs.Causes.{cause-of}
+use Rattle.frames.specs.Decoded.{onward, framed, packet-accept, attach-accepted, attach-accept, attach-rejected, attach-reject, detach-accepted, detach-accept, update-accepted, update-accept, update-rejected, update-reject, location-accepted, location-accept, location-rejected, location-reject, begins, by-kind, decoded}
+use Rattle.frames.specs.Elements.{nothing, walk, packet-elements, circuit-elements}
+use Rattle.frames.specs.Laws.{NoMarks, NoMarkArea, NoMarkTmsi, NoMarkSignature, NoMarkIdentity, NoMarksPacket, Elements, Obeys, frame-kind, fixed-octets, side-of}
+use Rattle.frames.specs.declared.downlink.Downlink.{Downlink}
+use Rattle.frames.specs.declared.downlink.Downlink.the-variants.{AttachAccept, AttachReject, DetachAccept, UpdateAccept, UpdateReject, LocationAccept, LocationReject}
+use Rattle.frames.specs.declared.downlink.MobileIdentity.{MobileIdentity}
+use Rattle.frames.specs.declared.downlink.MobileIdentity.the-variants as identity
+use Rattle.frames.specs.declared.downlink.CircuitElements.{CircuitElements}
+use Rattle.frames.specs.declared.downlink.PacketAccept.{PacketAccept}
+use Rattle.frames.specs.declared.downlink.PacketElements.{PacketElements}
+use Rattle.frames.specs.declared.faults.ElementFault.{ElementFault}
+use Rattle.frames.specs.declared.faults.FrameFault.{FrameFault}
+use Rattle.frames.specs.declared.found.Found.{Found}
+use Rattle.frames.specs.declared.tags.Side.{Side}
+use Rattle.frames.specs.declared.tags.Side.the-variants.{Packet, Circuit}
+use Rattle.frames.proofs.LawsElements.{whole-elements}
+
+real-area : (a : Lai) → NoMarkArea a
+real-area a mark = let h = a .lawful in grind (arith, tells)
+
+real-tmsi : (t : Option Tmsi) → NoMarkTmsi t
+real-tmsi None = tt
+real-tmsi (Some t) = λ mark. let h = t .lawful in grind (arith, tells)
+
+real-signature : (g : Option Signature) → NoMarkSignature g
+real-signature None = tt
+real-signature (Some g) = λ mark. let h = g .lawful in grind (arith, tells)
+
+real-identity : (i : Option MobileIdentity) → NoMarkIdentity i
+real-identity None = tt
+real-identity (Some (identity.Tmsi t)) = real-tmsi (Some t)
+real-identity (Some (identity.Imsi i)) = tt
+
+real-packet : (es : PacketElements) → NoMarksPacket es
+real-packet es = (real-signature (es .signature), real-tmsi (es .«p_tmsi»))
+
+real : (m : Downlink) → NoMarks m
+real (AttachAccept a) = (real-area (a .rai .lai), real-packet (a .elements))
+real (AttachReject c es) = real-packet es
+real (DetachAccept es) = real-packet es
+real (UpdateAccept a) = (real-area (a .rai .lai), real-packet (a .elements))
+real (UpdateReject c es) = real-packet es
+real (LocationAccept a es) = (real-area a, real-identity (es .identity))
+real (LocationReject c es) = real-identity (es .identity)
+
+-- n octets from place k on
+abbrev from : ℕ → ℕ → List ℕ → List ℕ
+from zero k xs = []
+from (suc n) k xs = getD xs k 0 ∷ from n (k + 1) xs
+
+take-from : (n k : ℕ) (xs : List ℕ) → k + n ≤ length xs → take n (drop k xs) ≡ from n k xs
+take-from zero k xs h = refl
+take-from (suc n) k xs h =
+    ap (take (suc n)) (drop-more xs k 0 (omega arith)) ∙ ap (λ ys. getD xs k 0 ∷ ys) (take-from n (k + 1) xs (omega arith))
+
+first-two : (a b : ℕ) (xs : List ℕ) → 2 ≤ length xs → begins a b xs ≡ true → take 2 xs ≡ a ∷ b ∷ []
+first-two a b xs h e =
+    let both = and-parts (eqb (getD xs 0 0) a) (eqb (getD xs 1 0) b) e in
+    let one = eqb-true (getD xs 0 0) a (both .0) in
+    let two = eqb-true (getD xs 1 0) b (both .1) in
+    take-from 2 0 xs h ∙ (λ k. one k ∷ two k ∷ [])
+
+onward-made : {X Y : Type 0} (r : Result X ElementFault) (next : X → Result Y FrameFault) (P : Y → Type 0)
+    → ((x : X) → r ≡ Ok x → made (next x) P) → made (onward r next) P
+onward-made (Err e) next P then = tt
+onward-made (Ok x) next P then = then x refl
+
+framed-made : {Y : Type 0} (side : Side) (n : ℕ) (xs : List ℕ) (next : Found → Result Y FrameFault) (P : Y → Type 0)
+    → ((f : Found) → n ≤ length xs → Elements side (drop n xs) → made (next f) P) → made (framed side n xs next) P
+framed-made side n xs next P then =
+    let rest = between n (length xs) xs in
+    cond-both (ltb (length xs) n) _ _ (λ r. made r P) (λ cut. tt)
+    (λ fits. onward-made (walk side nothing (n + 1) rest 0) next P
+    (λ f e. then f (ltb-false _ _ fits) (subst (Elements side) (take-rest xs n) (whole-elements (length rest) side nothing f (n + 1) rest (omega arith) e))))
+
+accept-made : (accept : PacketAccept → Downlink) (timer at : ℕ) (area : Option Rai) (f : Found) (P : Downlink → Type 0)
+    → ((a : PacketAccept) → area ≡ Some (a .rai) → P (accept a)) → made (packet-accept accept timer at area f) P
+accept-made accept timer at None f P then = tt
+accept-made accept timer at (Some rai) f P then =
+    onward-made (packet-elements f) (λ es. Ok (accept (record { t3312 = gprs-seconds timer; rai = rai; elements = es }))) P
+    (λ es _. then (record { t3312 = gprs-seconds timer; rai = rai; elements = es }) refl)
+
+location-made : (area : Option Lai) (f : Found) (P : Downlink → Type 0)
+    → ((a : Lai) (es : CircuitElements) → area ≡ Some a → P (LocationAccept a es)) → made (location-accepted area f) P
+location-made None f P then = tt
+location-made (Some a) f P then = onward-made (circuit-elements f) (λ es. Ok (LocationAccept a es)) P (λ es _. then a es refl)
+
+-- the area that stands at place k of a frame
+abbrev rai-at : ℕ → List ℕ → Option Rai
+rai-at k xs = rai-of (getD xs k 0) (getD xs (k + 1) 0) (getD xs (k + 2) 0) (getD xs (k + 3) 0) (getD xs (k + 4) 0) (getD xs (k + 5) 0)
+
+abbrev lai-at : ℕ → List ℕ → Option Lai
+lai-at k xs = lai-of (getD xs k 0) (getD xs (k + 1) 0) (getD xs (k + 2) 0) (getD xs (k + 3) 0) (getD xs (k + 4) 0)
+
+module _ (xs : List ℕ) (least : 2 ≤ length xs) (most : length xs ≤ 251) where
+  abbrev Lawful : Downlink → Type 0
+  Lawful m = Obeys m xs
+
+  obeys : (m : Downlink) → take 2 xs ≡ frame-kind m → fixed-octets m ≤ length xs → Elements (side-of m) (drop (fixed-octets m) xs) → Obeys m xs
+  obeys m kind fixed elements =
+      record { within = (least, most); kind = kind; fixed = fixed; elements = elements; no-marks = real m }
+
+  attach-accept-obeys : take 2 xs ≡ 0x08 ∷ 0x02 ∷ [] → made (attach-accept xs) Lawful
+  attach-accept-obeys kind =
+      framed-made Packet 11 xs (attach-accepted (getD xs 2 0) (getD xs 3 0) (rai-at 5 xs)) Lawful
+      (λ f long elements. cond-both (eqb (getD xs 2 0 % 16) 1) _ _ (λ r. made r Lawful)
+      (λ _. accept-made AttachAccept (getD xs 3 0) 6 (rai-at 5 xs) f Lawful (λ a stands. obeys (AttachAccept a) kind long elements))
+      (λ _. tt))
+
+  update-accept-obeys : take 2 xs ≡ 0x08 ∷ 0x09 ∷ [] → made (update-accept xs) Lawful
+  update-accept-obeys kind =
+      framed-made Packet 10 xs (update-accepted (getD xs 2 0) (getD xs 3 0) (rai-at 4 xs)) Lawful
+      (λ f long elements. cond-both (eqb (getD xs 2 0 / 16) 0) _ _ (λ r. made r Lawful)
+      (λ _. accept-made UpdateAccept (getD xs 3 0) 5 (rai-at 4 xs) f Lawful (λ a stands. obeys (UpdateAccept a) kind long elements))
+      (λ _. tt))
+
+  attach-reject-obeys : take 2 xs ≡ 0x08 ∷ 0x04 ∷ [] → made (attach-reject xs) Lawful
+  attach-reject-obeys kind =
+      framed-made Packet 3 xs (attach-rejected (getD xs 2 0)) Lawful
+      (λ f long elements. onward-made (packet-elements f) (λ es. Ok (AttachReject (cause-of (getD xs 2 0)) es)) Lawful
+      (λ es _. obeys (AttachReject (cause-of (getD xs 2 0)) es) kind long elements))
+
+  update-reject-obeys : take 2 xs ≡ 0x08 ∷ 0x0b ∷ [] → made (update-reject xs) Lawful
+  update-reject-obeys kind =
+      framed-made Packet 4 xs (update-rejected (getD xs 2 0)) Lawful
+      (λ f long elements. onward-made (packet-elements f) (λ es. Ok (UpdateReject (cause-of (getD xs 2 0)) es)) Lawful
+      (λ es _. obeys (UpdateReject (cause-of (getD xs 2 0)) es) kind long elements))
+
+  detach-accept-obeys : take 2 xs ≡ 0x08 ∷ 0x06 ∷ [] → made (detach-accept xs) Lawful
+  detach-accept-obeys kind =
+      framed-made Packet 3 xs detach-accepted Lawful
+      (λ f long elements. onward-made (packet-elements f) (λ es. Ok (DetachAccept es)) Lawful
+      (λ es _. obeys (DetachAccept es) kind long elements))
+
+  location-accept-obeys : take 2 xs ≡ 0x05 ∷ 0x02 ∷ [] → made (location-accept xs) Lawful
+  location-accept-obeys kind =
+      framed-made Circuit 7 xs (location-accepted (lai-at 2 xs)) Lawful
+      (λ f long elements. location-made (lai-at 2 xs) f Lawful (λ a es stands. obeys (LocationAccept a es) kind long elements))
+
+  location-reject-obeys : take 2 xs ≡ 0x05 ∷ 0x04 ∷ [] → made (location-reject xs) Lawful
+  location-reject-obeys kind =
+      framed-made Circuit 3 xs (location-rejected (getD xs 2 0)) Lawful
+      (λ f long elements. onward-made (circuit-elements f) (λ es. Ok (LocationReject (cause-of (getD xs 2 0)) es)) Lawful
+      (λ es _. obeys (LocationReject (cause-of (getD xs 2 0)) es) kind long elements))
+
+  -- one kind, or else another
+  either : (a b : ℕ) (this others : Result Downlink FrameFault) → (take 2 xs ≡ a ∷ b ∷ [] → made this Lawful) → made others Lawful → made (cond (begins a b xs) this others) Lawful
+  either a b this others here later = cond-both (begins a b xs) this others (λ r. made r Lawful) (λ e. here (first-two a b xs least e)) (λ _. later)
+
+  by-kind-obeys : made (by-kind xs) Lawful
+  by-kind-obeys =
+      either 0x08 0x02 _ _ attach-accept-obeys
+      (either 0x08 0x04 _ _ attach-reject-obeys
+      (either 0x08 0x06 _ _ detach-accept-obeys
+      (either 0x08 0x09 _ _ update-accept-obeys
+      (either 0x08 0x0b _ _ update-reject-obeys
+      (either 0x05 0x02 _ _ location-accept-obeys
+      (either 0x05 0x04 _ _ location-reject-obeys tt))))))
+
+decoded-obeys : (xs : List ℕ) → made (decoded xs) (λ m. Obeys m xs)
+decoded-obeys xs =
+    cond-both (ltb (length xs) 2) _ _ (λ r. made r (λ m. Obeys m xs)) (λ _. tt)
+    (λ least. cond-both (ltb 251 (length xs)) _ _ (λ r. made r (λ m. Obeys m xs)) (λ _. tt)
+    (λ most. by-kind-obeys xs (ltb-false _ _ least) (ltb-false _ _ most)))
+
+pub read-obeys : (xs : List ℕ) (r : Result Downlink FrameFault) → r ≡ decoded xs → made r (λ m. Obeys m xs)
+read-obeys xs r e = subst (λ x. made x (λ m. Obeys m xs)) (sym e) (decoded-obeys xs)
