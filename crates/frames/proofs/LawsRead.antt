@@ -1,12 +1,14 @@
 -- What is read out of a frame obeys the layout.
-use mathlib.Core.Path.{_≡_, refl, sym, ap, subst, _∙_}
+use mathlib.Core.Path.{_≡_, refl, sym, subst, _∙_}
 use mathlib.Core.Bool.{true, cond}
 use mathlib.Core.List.{List, [], _∷_}
-use Prim.Native.Nat.{ℕ, zero, suc, _+_, _/_, _%_, _≤_, _<_}
+use Prim.Native.Nat.{ℕ, _+_, _/_, _%_, _≤_, _<_}
 use native.Mathlib.Omega.{arith}
 use lib.Dec.{ltb, eqb}
 use lib.ListN.{length, take, drop, getD}
-use Rattle.std.proofs.shelf.Lists.{drop-more, take-rest}
+use mir.Syntax.{w8}
+use mir.Val.{Fits}
+use Rattle.std.proofs.shelf.Lists.{take-rest}
 use Rattle.std.proofs.shelf.Tests.{cond-both, ltb-false, eqb-true, and-parts}
 use Rattle.std.proofs.shelf.Ways.{tells}
 use Rattle.std.specs.Holes.{between}
@@ -15,16 +17,15 @@ use Rattle.std.specs.declared.option.Option.{Option}
 use Rattle.std.specs.declared.option.Option.the-variants.{Some, None}
 use Rattle.std.specs.declared.result.Result.{Result}
 use Rattle.std.specs.declared.result.Result.the-variants.{Ok, Err}
-use Rattle.vocabulary.specs.Places.{rai-of, lai-of}
 use Rattle.vocabulary.specs.Timers.{gprs-seconds}
 use Rattle.vocabulary.specs.declared.values.Lai.{Lai}
 use Rattle.vocabulary.specs.declared.values.Rai.{Rai}
 use Rattle.vocabulary.specs.declared.values.Signature.{Signature}
 use Rattle.vocabulary.specs.declared.values.Tmsi.{Tmsi}
 use Rattle.frames.specs.Causes.{cause-of}
-use Rattle.frames.specs.Decoded.{onward, framed, packet-accept, attach-accepted, attach-accept, attach-rejected, attach-reject, detach-accepted, detach-accept, update-accepted, update-accept, update-rejected, update-reject, location-accepted, location-accept, location-rejected, location-reject, begins, by-kind, decoded}
+use Rattle.frames.specs.Decoded.{area-in, lai-in, onward, framed, packet-accept, attach-accepted, attach-accept, attach-rejected, attach-reject, detach-accepted, detach-accept, update-accepted, update-accept, update-rejected, update-reject, location-accepted, location-accept, location-rejected, location-reject, begins, by-kind, decoded}
 use Rattle.frames.specs.Elements.{nothing, walk, packet-elements, circuit-elements}
-use Rattle.frames.specs.Laws.{NoMarks, NoMarkArea, NoMarkTmsi, NoMarkSignature, NoMarkIdentity, NoMarksPacket, Elements, Obeys, frame-kind, fixed-octets, side-of}
+use Rattle.frames.specs.Laws.{NoMarks, NoMarkArea, NoMarkTmsi, NoMarkSignature, NoMarkIdentity, NoMarksPacket, AreaStands, Elements, Obeys, frame-kind, fixed-octets, side-of}
 use Rattle.frames.specs.declared.downlink.Downlink.{Downlink}
 use Rattle.frames.specs.declared.downlink.Downlink.the-variants.{AttachAccept, AttachReject, DetachAccept, UpdateAccept, UpdateReject, LocationAccept, LocationReject}
 use Rattle.frames.specs.declared.downlink.MobileIdentity.{MobileIdentity}
@@ -37,6 +38,7 @@ use Rattle.frames.specs.declared.faults.FrameFault.{FrameFault}
 use Rattle.frames.specs.declared.found.Found.{Found}
 use Rattle.frames.specs.declared.tags.Side.{Side}
 use Rattle.frames.specs.declared.tags.Side.the-variants.{Packet, Circuit}
+use Rattle.frames.proofs.LawsAreas.{from, take-from, lai-stands, rai-stands}
 use Rattle.frames.proofs.LawsElements.{whole-elements}
 
 real-area : (a : Lai) → NoMarkArea a
@@ -66,16 +68,6 @@ real (UpdateAccept a) = (real-area (a .rai .lai), real-packet (a .elements))
 real (UpdateReject c es) = real-packet es
 real (LocationAccept a es) = (real-area a, real-identity (es .identity))
 real (LocationReject c es) = real-identity (es .identity)
-
--- n octets from place k on
-abbrev from : ℕ → ℕ → List ℕ → List ℕ
-from zero k xs = []
-from (suc n) k xs = getD xs k 0 ∷ from n (k + 1) xs
-
-take-from : (n k : ℕ) (xs : List ℕ) → k + n ≤ length xs → take n (drop k xs) ≡ from n k xs
-take-from zero k xs h = refl
-take-from (suc n) k xs h =
-    ap (take (suc n)) (drop-more xs k 0 (omega arith)) ∙ ap (λ ys. getD xs k 0 ∷ ys) (take-from n (k + 1) xs (omega arith))
 
 first-two : (a b : ℕ) (xs : List ℕ) → 2 ≤ length xs → begins a b xs ≡ true → take 2 xs ≡ a ∷ b ∷ []
 first-two a b xs h e =
@@ -109,63 +101,56 @@ location-made : (area : Option Lai) (f : Found) (P : Downlink → Type 0)
 location-made None f P then = tt
 location-made (Some a) f P then = onward-made (circuit-elements f) (λ es. Ok (LocationAccept a es)) P (λ es _. then a es refl)
 
--- the area that stands at place k of a frame
-abbrev rai-at : ℕ → List ℕ → Option Rai
-rai-at k xs = rai-of (getD xs k 0) (getD xs (k + 1) 0) (getD xs (k + 2) 0) (getD xs (k + 3) 0) (getD xs (k + 4) 0) (getD xs (k + 5) 0)
-
-abbrev lai-at : ℕ → List ℕ → Option Lai
-lai-at k xs = lai-of (getD xs k 0) (getD xs (k + 1) 0) (getD xs (k + 2) 0) (getD xs (k + 3) 0) (getD xs (k + 4) 0)
-
-module _ (xs : List ℕ) (least : 2 ≤ length xs) (most : length xs ≤ 251) where
+module _ (xs : List ℕ) (octets : (i : ℕ) → getD xs i 0 < 256) (least : 2 ≤ length xs) (most : length xs ≤ 251) where
   abbrev Lawful : Downlink → Type 0
   Lawful m = Obeys m xs
 
-  obeys : (m : Downlink) → take 2 xs ≡ frame-kind m → fixed-octets m ≤ length xs → Elements (side-of m) (drop (fixed-octets m) xs) → Obeys m xs
-  obeys m kind fixed elements =
-      record { within = (least, most); kind = kind; fixed = fixed; elements = elements; no-marks = real m }
+  obeys : (m : Downlink) → take 2 xs ≡ frame-kind m → fixed-octets m ≤ length xs → Elements (side-of m) (drop (fixed-octets m) xs) → AreaStands m xs → Obeys m xs
+  obeys m kind fixed elements area =
+      record { within = (least, most); kind = kind; fixed = fixed; elements = elements; no-marks = real m; area = area }
 
   attach-accept-obeys : take 2 xs ≡ 0x08 ∷ 0x02 ∷ [] → made (attach-accept xs) Lawful
   attach-accept-obeys kind =
-      framed-made Packet 11 xs (attach-accepted (getD xs 2 0) (getD xs 3 0) (rai-at 5 xs)) Lawful
+      framed-made Packet 11 xs (attach-accepted (getD xs 2 0) (getD xs 3 0) (area-in (from 6 5 xs))) Lawful
       (λ f long elements. cond-both (eqb (getD xs 2 0 % 16) 1) _ _ (λ r. made r Lawful)
-      (λ _. accept-made AttachAccept (getD xs 3 0) 6 (rai-at 5 xs) f Lawful (λ a stands. obeys (AttachAccept a) kind long elements))
+      (λ _. accept-made AttachAccept (getD xs 3 0) 6 (area-in (from 6 5 xs)) f Lawful (λ a stands. obeys (AttachAccept a) kind long elements (rai-stands 5 xs octets (a .rai) long stands)))
       (λ _. tt))
 
   update-accept-obeys : take 2 xs ≡ 0x08 ∷ 0x09 ∷ [] → made (update-accept xs) Lawful
   update-accept-obeys kind =
-      framed-made Packet 10 xs (update-accepted (getD xs 2 0) (getD xs 3 0) (rai-at 4 xs)) Lawful
+      framed-made Packet 10 xs (update-accepted (getD xs 2 0) (getD xs 3 0) (area-in (from 6 4 xs))) Lawful
       (λ f long elements. cond-both (eqb (getD xs 2 0 / 16) 0) _ _ (λ r. made r Lawful)
-      (λ _. accept-made UpdateAccept (getD xs 3 0) 5 (rai-at 4 xs) f Lawful (λ a stands. obeys (UpdateAccept a) kind long elements))
+      (λ _. accept-made UpdateAccept (getD xs 3 0) 5 (area-in (from 6 4 xs)) f Lawful (λ a stands. obeys (UpdateAccept a) kind long elements (rai-stands 4 xs octets (a .rai) long stands)))
       (λ _. tt))
 
   attach-reject-obeys : take 2 xs ≡ 0x08 ∷ 0x04 ∷ [] → made (attach-reject xs) Lawful
   attach-reject-obeys kind =
       framed-made Packet 3 xs (attach-rejected (getD xs 2 0)) Lawful
       (λ f long elements. onward-made (packet-elements f) (λ es. Ok (AttachReject (cause-of (getD xs 2 0)) es)) Lawful
-      (λ es _. obeys (AttachReject (cause-of (getD xs 2 0)) es) kind long elements))
+      (λ es _. obeys (AttachReject (cause-of (getD xs 2 0)) es) kind long elements tt))
 
   update-reject-obeys : take 2 xs ≡ 0x08 ∷ 0x0b ∷ [] → made (update-reject xs) Lawful
   update-reject-obeys kind =
       framed-made Packet 4 xs (update-rejected (getD xs 2 0)) Lawful
       (λ f long elements. onward-made (packet-elements f) (λ es. Ok (UpdateReject (cause-of (getD xs 2 0)) es)) Lawful
-      (λ es _. obeys (UpdateReject (cause-of (getD xs 2 0)) es) kind long elements))
+      (λ es _. obeys (UpdateReject (cause-of (getD xs 2 0)) es) kind long elements tt))
 
   detach-accept-obeys : take 2 xs ≡ 0x08 ∷ 0x06 ∷ [] → made (detach-accept xs) Lawful
   detach-accept-obeys kind =
       framed-made Packet 3 xs detach-accepted Lawful
       (λ f long elements. onward-made (packet-elements f) (λ es. Ok (DetachAccept es)) Lawful
-      (λ es _. obeys (DetachAccept es) kind long elements))
+      (λ es _. obeys (DetachAccept es) kind long elements tt))
 
   location-accept-obeys : take 2 xs ≡ 0x05 ∷ 0x02 ∷ [] → made (location-accept xs) Lawful
   location-accept-obeys kind =
-      framed-made Circuit 7 xs (location-accepted (lai-at 2 xs)) Lawful
-      (λ f long elements. location-made (lai-at 2 xs) f Lawful (λ a es stands. obeys (LocationAccept a es) kind long elements))
+      framed-made Circuit 7 xs (location-accepted (lai-in (from 5 2 xs))) Lawful
+      (λ f long elements. location-made (lai-in (from 5 2 xs)) f Lawful (λ a es stands. obeys (LocationAccept a es) kind long elements (lai-stands 2 xs octets a long stands)))
 
   location-reject-obeys : take 2 xs ≡ 0x05 ∷ 0x04 ∷ [] → made (location-reject xs) Lawful
   location-reject-obeys kind =
       framed-made Circuit 3 xs (location-rejected (getD xs 2 0)) Lawful
       (λ f long elements. onward-made (circuit-elements f) (λ es. Ok (LocationReject (cause-of (getD xs 2 0)) es)) Lawful
-      (λ es _. obeys (LocationReject (cause-of (getD xs 2 0)) es) kind long elements))
+      (λ es _. obeys (LocationReject (cause-of (getD xs 2 0)) es) kind long elements tt))
 
   -- one kind, or else another
   either : (a b : ℕ) (this others : Result Downlink FrameFault) → (take 2 xs ≡ a ∷ b ∷ [] → made this Lawful) → made others Lawful → made (cond (begins a b xs) this others) Lawful
@@ -181,11 +166,11 @@ module _ (xs : List ℕ) (least : 2 ≤ length xs) (most : length xs ≤ 251) wh
       (either 0x05 0x02 _ _ location-accept-obeys
       (either 0x05 0x04 _ _ location-reject-obeys tt))))))
 
-decoded-obeys : (xs : List ℕ) → made (decoded xs) (λ m. Obeys m xs)
-decoded-obeys xs =
+decoded-obeys : (xs : List ℕ) → ((i : ℕ) → getD xs i 0 < 256) → made (decoded xs) (λ m. Obeys m xs)
+decoded-obeys xs octets =
     cond-both (ltb (length xs) 2) _ _ (λ r. made r (λ m. Obeys m xs)) (λ _. tt)
     (λ least. cond-both (ltb 251 (length xs)) _ _ (λ r. made r (λ m. Obeys m xs)) (λ _. tt)
-    (λ most. by-kind-obeys xs (ltb-false _ _ least) (ltb-false _ _ most)))
+    (λ most. by-kind-obeys xs octets (ltb-false _ _ least) (ltb-false _ _ most)))
 
-pub read-obeys : (xs : List ℕ) (r : Result Downlink FrameFault) → r ≡ decoded xs → made r (λ m. Obeys m xs)
-read-obeys xs r e = subst (λ x. made x (λ m. Obeys m xs)) (sym e) (decoded-obeys xs)
+pub read-obeys : (xs : List ℕ) (r : Result Downlink FrameFault) → ((i : ℕ) → Fits w8 (getD xs i 0)) → r ≡ decoded xs → made r (λ m. Obeys m xs)
+read-obeys xs r octets e = subst (λ x. made x (λ m. Obeys m xs)) (sym e) (decoded-obeys xs (λ i. omega (arith, octets i)))

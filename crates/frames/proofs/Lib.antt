@@ -1,5 +1,6 @@
 pub mod Walks
 pub mod Chains
 pub mod LawsWritten
+pub mod LawsAreas
 pub mod LawsElements
 pub mod LawsRead

@@ -6,12 +6,12 @@ use Prim.Native.Nat.{ℕ, _+_, _/_, _<_, _≤_}
 use lib.ListN.{length, take, drop}
 use Rattle.std.specs.declared.option.Option.{Option}
 use Rattle.std.specs.declared.option.Option.the-variants.{Some, None}
+use Rattle.vocabulary.specs.Places.{lai-octets, rai-octets}
 use Rattle.vocabulary.specs.declared.values.Imsi.{Imsi}
 use Rattle.vocabulary.specs.declared.values.Lai.{Lai}
 use Rattle.vocabulary.specs.declared.values.Rai.{Rai}
 use Rattle.vocabulary.specs.declared.values.Signature.{Signature}
 use Rattle.vocabulary.specs.declared.values.Tmsi.{Tmsi}
-use Rattle.frames.specs.declared.downlink.CircuitElements.{CircuitElements}
 use Rattle.frames.specs.declared.downlink.Downlink.{Downlink}
 use Rattle.frames.specs.declared.downlink.Downlink.the-variants.{AttachAccept, AttachReject, DetachAccept, UpdateAccept, UpdateReject, LocationAccept, LocationReject}
 use Rattle.frames.specs.declared.downlink.MobileIdentity.{MobileIdentity}
@@ -46,6 +46,7 @@ fixed-octets (UpdateReject c es) = 4
 fixed-octets (LocationAccept a es) = 7
 fixed-octets (LocationReject c es) = 3
 
+-- mobility management of the packet side or of the circuit side
 abbrev pub side-of : Downlink → Side
 side-of (AttachAccept a) = Packet
 side-of (AttachReject c es) = Packet
@@ -60,7 +61,7 @@ abbrev pub Unlengthed : Side → ℕ → Type 0
 Unlengthed Packet tag = (tag ≡ 0x19) ⊎ ((tag ≡ 0x17) ⊎ (tag ≡ 0x25))
 Unlengthed Circuit tag = ⊥
 
--- the octets after a tag, all of them
+-- all octets after a tag: none from 80 on, those of a fixed number, or a length octet and as many as it says
 pub data Part : Side → ℕ → List ℕ → Type 0 where
   alone : {side : Side} {tag : ℕ} → 0x80 ≤ tag → Part side tag []
   signature : (a b c : ℕ) → Part Packet 0x19 (a ∷ b ∷ c ∷ [])
@@ -68,7 +69,7 @@ pub data Part : Side → ℕ → List ℕ → Type 0 where
   gmm-cause : (a : ℕ) → Part Packet 0x25 (a ∷ [])
   lengthed : {side : Side} {tag : ℕ} → tag < 0x80 → (Unlengthed side tag → ⊥) → (value : List ℕ) → Part side tag (length value ∷ value)
 
--- element after element, each of them whole
+-- element after element, each whole, up to the end of the frame
 pub data Elements : Side → List ℕ → Type 0 where
   none : {side : Side} → Elements side []
   more : {side : Side} {tag : ℕ} {part rest : List ℕ} → Part side tag part → Elements side rest → Elements side (tag ∷ (part ++ rest))
@@ -87,11 +88,13 @@ abbrev pub NoMarkSignature : Option Signature → Type 0
 NoMarkSignature (Some g) = g .bits ≢ 0xff_ffff
 NoMarkSignature None = Unit {0}
 
+-- a TMSI as above; an IMSI has no mark
 abbrev pub NoMarkIdentity : Option MobileIdentity → Type 0
 NoMarkIdentity (Some (identity.Tmsi t)) = NoMarkTmsi (Some t)
 NoMarkIdentity (Some (identity.Imsi i)) = Unit {0}
 NoMarkIdentity None = Unit {0}
 
+-- the signature and the P-TMSI, where they are there
 abbrev pub NoMarksPacket : PacketElements → Type 0
 NoMarksPacket es = NoMarkSignature (es .signature) × NoMarkTmsi (es .«p_tmsi»)
 
@@ -105,6 +108,16 @@ NoMarks (UpdateReject c es) = NoMarksPacket es
 NoMarks (LocationAccept a es) = NoMarkArea a × NoMarkIdentity (es .identity)
 NoMarks (LocationReject c es) = NoMarkIdentity (es .identity)
 
+-- the area of an accept is the one whose octets stand in the frame
+abbrev pub AreaStands : Downlink → List ℕ → Type 0
+AreaStands (AttachAccept a) xs = rai-octets (Some (a .rai)) ≡ take 6 (drop 5 xs)
+AreaStands (AttachReject c es) xs = Unit {0}
+AreaStands (DetachAccept es) xs = Unit {0}
+AreaStands (UpdateAccept a) xs = rai-octets (Some (a .rai)) ≡ take 6 (drop 4 xs)
+AreaStands (UpdateReject c es) xs = Unit {0}
+AreaStands (LocationAccept a es) xs = lai-octets (Some a) ≡ take 5 (drop 2 xs)
+AreaStands (LocationReject c es) xs = Unit {0}
+
 -- what is read out of a frame obeys the layout
 pub record Obeys (m : Downlink) (xs : List ℕ) : Type 0 where
   pub within : (2 ≤ length xs) × (length xs ≤ 251)
@@ -112,6 +125,7 @@ pub record Obeys (m : Downlink) (xs : List ℕ) : Type 0 where
   pub fixed : fixed-octets m ≤ length xs
   pub elements : Elements (side-of m) (drop (fixed-octets m) xs)
   pub no-marks : NoMarks m
+  pub area : AreaStands m xs
 
 -- the protocol of a message and its type
 abbrev pub message-kind : Uplink → List ℕ
