@@ -47,6 +47,7 @@ impl Tmsi {
         }
     }
 
+    // The octets of the identity, the highest first.
     pub fn octets(self) -> [u8; 4]
         ensures value { λ r. ⌜ r ≡ tmsi-octets self ⌝ }
         ensures back { λ r. ⌜ tmsi-of (getD r 0 0) (getD r 1 0) (getD r 2 0) (getD r 3 0) ≡ Some self ⌝ }
@@ -73,6 +74,7 @@ impl Signature {
         }
     }
 
+    // The octets of the signature, the highest first.
     pub fn octets(self) -> [u8; 3]
         ensures value { λ r. ⌜ r ≡ signature-octets self ⌝ }
         ensures back { λ r. ⌜ signature-of (getD r 0 0) (getD r 1 0) (getD r 2 0) ≡ Some self ⌝ }

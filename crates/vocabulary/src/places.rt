@@ -59,6 +59,7 @@ impl Plmn {
         plmn_when(a % 16, a / 16, b % 16, c % 16, c / 16, third_of(b / 16))
     }
 
+    // The octets of a network; they read back as this network.
     pub fn octets(self) -> [u8; 3]
         ensures value { λ r. ⌜ r ≡ plmn-octets self ⌝ }
         ensures back { λ r. ⌜ plmn-of (getD r 0 0) (getD r 1 0) (getD r 2 0) ≡ Some self ⌝ }
@@ -89,6 +90,7 @@ impl Lai {
         }
     }
 
+    // The location area that five octets name, if its network is lawful and it is not none.
     pub fn from_octets(octets: [u8; 5]) -> Option<Lai>
         ensures value { λ r. ⌜ r ≡ lai-of (getD octets 0 0) (getD octets 1 0) (getD octets 2 0) (getD octets 3 0) (getD octets 4 0) ⌝ }
     {
@@ -97,7 +99,7 @@ impl Lai {
         Lai::new(plmn, u16::from_be_bytes([d, e]))
     }
 
-    // The octets of an area, or of none.
+    // The octets of an area or of none; they read back as what they were written for.
     pub fn octets(area: Option<Lai>) -> [u8; 5]
         ensures value { λ r. ⌜ r ≡ lai-octets area ⌝ }
         ensures back { λ r. ⌜ lai-of (getD r 0 0) (getD r 1 0) (getD r 2 0) (getD r 3 0) (getD r 4 0) ≡ area ⌝ }
@@ -118,6 +120,7 @@ fn area_octets(area: Lai) -> [u8; 5]
 }
 
 impl Rai {
+    // The routing area that six octets name, if its location area is one.
     pub fn from_octets(octets: [u8; 6]) -> Option<Rai>
         ensures value { λ r. ⌜ r ≡ rai-of (getD octets 0 0) (getD octets 1 0) (getD octets 2 0) (getD octets 3 0) (getD octets 4 0) (getD octets 5 0) ⌝ }
     {
@@ -126,6 +129,7 @@ impl Rai {
         Some(Rai { lai, rac })
     }
 
+    // The octets of an area or of none; they read back as what they were written for.
     pub fn octets(area: Option<Rai>) -> [u8; 6]
         ensures value { λ r. ⌜ r ≡ rai-octets area ⌝ }
         ensures back { λ r. ⌜ rai-of (getD r 0 0) (getD r 1 0) (getD r 2 0) (getD r 3 0) (getD r 4 0) (getD r 5 0) ≡ area ⌝ }
