@@ -2,7 +2,7 @@
 ghost use mathlib.Core.Path.{_≡_};
 ghost use Prim.Native.Nat.{_≤_, _+_};
 ghost use lib.ListN.{length};
-ghost use Rattle.frames.specs.Elements.{nothing, blame, noted, walk, packet-elements, circuit-elements};
+ghost use Rattle.frames.specs.Elements.{nothing, blame, noted, walk, judged, packet-elements, circuit-elements};
 use crate::CircuitElements;
 use crate::ElementFault;
 use crate::PacketElements;
@@ -102,8 +102,9 @@ impl Found {
         }
     }
 
-    pub(crate) fn packet(self) -> Result<PacketElements, ElementFault>
-        ensures value { λ r. ⌜ r ≡ packet-elements self ⌝ }
+    // The fault of the elements, if there is one: a bad value comes before an unknown tag.
+    fn judged(self) -> Result<(), ElementFault>
+        ensures value { λ r. ⌜ r ≡ judged (self .bad) (self .low) tt ⌝ }
     {
         if let Some(at) = self.bad {
             return Err(ElementFault::BadValue(at));
@@ -111,6 +112,13 @@ impl Found {
         if let Some(at) = self.low {
             return Err(ElementFault::UnknownTag(at));
         }
+        Ok(())
+    }
+
+    pub(crate) fn packet(self) -> Result<PacketElements, ElementFault>
+        ensures value { λ r. ⌜ r ≡ packet-elements self ⌝ }
+    {
+        self.judged()?;
         Ok(PacketElements {
             signature: self.signature,
             p_tmsi: self.p_tmsi,
@@ -122,12 +130,7 @@ impl Found {
     pub(crate) fn circuit(self) -> Result<CircuitElements, ElementFault>
         ensures value { λ r. ⌜ r ≡ circuit-elements self ⌝ }
     {
-        if let Some(at) = self.bad {
-            return Err(ElementFault::BadValue(at));
-        }
-        if let Some(at) = self.low {
-            return Err(ElementFault::UnknownTag(at));
-        }
+        self.judged()?;
         Ok(CircuitElements {
             identity: self.identity,
             equivalents: self.equivalents,
