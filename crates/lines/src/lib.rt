@@ -1,0 +1,10 @@
+// From a line of text to its answer: a frame in hexadecimal is read, a message given by its fields is written.
+mod answers;
+mod asked;
+mod spelling;
+
+pub use answers::Answer;
+pub use answers::answer_to;
+pub use answers::frame_answer;
+pub use asked::BadLine;
+pub use asked::Line;
