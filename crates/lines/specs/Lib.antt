@@ -1,2 +1,3 @@
 pub mod Spelling
 pub mod Answers
+pub mod Fields

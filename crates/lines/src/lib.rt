@@ -1,6 +1,7 @@
 // From a line of text to its answer: a frame in hexadecimal is read, a message given by its fields is written.
 mod answers;
 mod asked;
+mod fields;
 mod spelling;
 
 pub use answers::Answer;
@@ -8,3 +9,4 @@ pub use answers::answer_to;
 pub use answers::frame_answer;
 pub use asked::BadLine;
 pub use asked::Line;
+pub use asked::Name;
