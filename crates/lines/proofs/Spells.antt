@@ -1,20 +1,12 @@
 -- One character more of a text.
 use mathlib.Core.Path.{_≡_, sym, ap, _∙_}
-use mathlib.Core.Bool.{cond}
 use mathlib.Core.List.{List}
 use Prim.Native.Nat.{ℕ, _+_, _<_, _≤_}
 use lib.ListN.{length, drop, getD}
 use Rattle.std.proofs.shelf.Lists.{at-drop-more, at-drop-all}
-use Rattle.std.specs.Results.{isOk}
 use Rattle.std.specs.declared.option.Option.{Option}
-use Rattle.std.specs.declared.result.Result.{Result}
-use Rattle.std.specs.declared.result.Result.the-variants.{Ok}
 use Rattle.lines.specs.Spelling.{taken, ended, stepped, spelled}
 use Rattle.lines.specs.declared.spelling.Step.{Step}
-
--- what a call did, where it succeeded
-pub when-ok : {T E X : Type 0} (r : Result T E) (x : T) (a b : X) → r ≡ Ok x → cond (isOk r) a b ≡ a
-when-ok r x a b e = ap (λ z. cond (isOk z) a b) e
 
 pub one-more : (done : List ℕ) (high : Option ℕ) (text : List ℕ) (i : ℕ) (s : Step) → i < length text → s ≡ taken high (getD text i 0) → stepped done high s (λ d h. spelled d h (drop (i + 1) text)) ≡ spelled done high (drop i text)
 unfolding spelled

@@ -1,3 +1,4 @@
 pub mod Spelling
 pub mod Answers
 pub mod Fields
+pub mod Values

@@ -3,8 +3,10 @@ mod answers;
 mod asked;
 mod fields;
 mod spelling;
+mod values;
 
 pub use answers::Answer;
+pub use answers::Octets;
 pub use answers::answer_to;
 pub use answers::frame_answer;
 pub use asked::BadLine;

@@ -3,7 +3,7 @@ use Prim.Native.Nat.{_+_}
 use lib.ListN.{drop}
 use Rattle.std.specs.Of.Vec.{vec-items}
 use Rattle.lines.specs.Spelling.{spelled}
-use Rattle.lines.proofs.Spells.{when-ok, one-more, no-more}
+use Rattle.lines.proofs.Spells.{one-more, no-more}
 use Rattle.lines.proofs.spelling.spelled.Needs as need
 use Rattle.lines.proofs.spelling.spelled.Needs.{in-Space, in-High, in-Octet·in-Continue-push}
 
@@ -33,7 +33,7 @@ loop-character-again c =
       | in-High w ↦ (λ k. spelled (vec-items (w .octets-is k)) (w .high-is k) rest)
           ∙ one-more (vec-items done) high text i _ lt (w .in-High .ensures tt .value) ∙ c .loop-character .inv
       | in-Octet·in-Continue-push w ↦
-          let items = ap vec-items (w .octets-is) ∙ w .push .ensures .items ∙ when-ok _ _ _ _ (w .in-Continue-push .was tt) in
+          let items = ap vec-items (w .octets-is) ∙ w .in-Continue-push .ensures tt .items in
           (λ k. spelled (items k) (w .high-is k) rest)
           ∙ one-more (vec-items done) high text i _ lt (w .in-Octet .ensures tt .value) ∙ c .loop-character .inv
     ]
