@@ -1,8 +1,10 @@
 // From a line of text to its answer: a frame in hexadecimal is read, a message given by its fields is written.
 mod answers;
 mod asked;
+mod commands;
 mod fields;
 mod spelling;
+mod texts;
 mod values;
 
 pub use answers::Answer;
@@ -12,3 +14,4 @@ pub use answers::frame_answer;
 pub use asked::BadLine;
 pub use asked::Line;
 pub use asked::Name;
+pub use texts::line_in;
