@@ -28,53 +28,51 @@ use Rattle.lines.specs.declared.fields.Kind.the-variants as kind
 use Rattle.lines.specs.declared.fields.TypeWord.{TypeWord}
 use Rattle.lines.specs.declared.fields.TypeWord.the-variants as word
 
--- what is stored for the packet side has a routing area and a signature, for the circuit side a location area
-abbrev pub packet-field : Name → Bool
-packet-field name.Lai = false
-packet-field name.Imsi = true
-packet-field name.Tmsi = true
-packet-field name.Signature = true
-packet-field name.Rai = true
-packet-field name.Key = true
-packet-field name.Type = false
-packet-field name.Classmark = true
-packet-field name.Capability = true
-packet-field name.Drx = true
-packet-field name.Radio = true
+-- where a field stands: with every request that names the subscriber, on one side alone, or as the type
+pub data Place : Type 0 where
+  both : Place
+  packet : Place
+  circuit : Place
+  type : Place
 
-abbrev pub circuit-field : Name → Bool
-circuit-field name.Lai = true
-circuit-field name.Imsi = true
-circuit-field name.Tmsi = true
-circuit-field name.Signature = false
-circuit-field name.Rai = false
-circuit-field name.Key = true
-circuit-field name.Type = false
-circuit-field name.Classmark = true
-circuit-field name.Capability = true
-circuit-field name.Drx = true
-circuit-field name.Radio = true
+abbrev pub place : Name → Place
+place name.Imsi = both
+place name.Tmsi = both
+place name.Key = both
+place name.Classmark = both
+place name.Capability = both
+place name.Drx = both
+place name.Radio = both
+place name.Rai = packet
+place name.Signature = packet
+place name.Lai = circuit
+place name.Type = type
 
-abbrev pub type-field : Name → Bool
-type-field name.Lai = false
-type-field name.Imsi = false
-type-field name.Tmsi = false
-type-field name.Signature = false
-type-field name.Rai = false
-type-field name.Key = false
-type-field name.Type = true
-type-field name.Classmark = false
-type-field name.Capability = false
-type-field name.Drx = false
-type-field name.Radio = false
+abbrev pub on-packet : Place → Bool
+on-packet both = true
+on-packet packet = true
+on-packet circuit = false
+on-packet type = false
+
+abbrev pub on-circuit : Place → Bool
+on-circuit both = true
+on-circuit packet = false
+on-circuit circuit = true
+on-circuit type = false
+
+abbrev pub is-type : Place → Bool
+is-type both = false
+is-type packet = false
+is-type circuit = false
+is-type type = true
 
 -- the fields that a message has a use for: updates and a detach have a type
 abbrev pub belongs : Kind → Name → Bool
-belongs kind.Attach n = packet-field n
-belongs kind.Update n = packet-field n || type-field n
-belongs kind.Location n = circuit-field n || type-field n
-belongs kind.Indication n = circuit-field n
-belongs kind.Detach n = type-field n
+belongs kind.Attach n = on-packet (place n)
+belongs kind.Update n = on-packet (place n) || is-type (place n)
+belongs kind.Location n = on-circuit (place n) || is-type (place n)
+belongs kind.Indication n = on-circuit (place n)
+belongs kind.Detach n = is-type (place n)
 belongs kind.AttachComplete n = false
 belongs kind.UpdateComplete n = false
 belongs kind.TmsiComplete n = false

@@ -3,3 +3,4 @@ pub mod Asked
 pub mod Answers
 pub mod Fields
 pub mod Values
+pub mod Words

@@ -1,8 +1,8 @@
 -- What a text spells in hexadecimal: two digits to an octet, spaces between octets, and a comment from '#' on.
-use mathlib.Core.Bool.{Bool, cond, _&&_, _||_}
+use mathlib.Core.Bool.{Bool, true, cond, _&&_, _||_}
 use mathlib.Core.List.{List, [], _∷_, _++_}
-use Prim.Native.Nat.{ℕ, _+_, _-_, _*_, _%_}
-use lib.Dec.{leb, eqb}
+use Prim.Native.Nat.{ℕ, _+_, _-_, _*_}
+use lib.Dec.{ltb, leb, eqb}
 use Rattle.std.specs.Of.Vec.{vec-items}
 use Rattle.std.specs.declared.vec.Vec.{Vec}
 use Rattle.std.specs.declared.option.Option.{Option}
@@ -20,6 +20,11 @@ digit-of c =
     cond (leb 48 c && leb c 57) (Some (c - 48))
     (cond (leb 65 c && leb c 70) (Some (c - 65 + 10)) (cond (leb 97 c && leb c 102) (Some (c - 97 + 10)) None))
 
+-- a digit is below 16
+abbrev pub small : Option ℕ → Bool
+small None = true
+small (Some h) = ltb h 16
+
 abbrev pub space : ℕ → Bool
 space c = eqb c 32 || (eqb c 9 || eqb c 13)
 
@@ -28,10 +33,18 @@ abbrev pub taken : Option ℕ → ℕ → Step
 taken high c = by high (digit-of c)
   where
     by : Option ℕ → Option ℕ → Step
-    by (Some h) (Some l) = Octet (h % 16 * 16 + l % 16)
+    by (Some h) (Some l) = Octet (h * 16 + l)
     by None (Some h) = High h
     by None None = cond (space c) Space (cond (eqb c 35) Comment (Bad NotHexadecimal))
     by (Some h) None = cond (space c || eqb c 35) (Bad OddDigits) (Bad NotHexadecimal)
+
+-- the high digit after a step is below 16 as well
+abbrev pub small-after : Option ℕ → Step → Bool
+small-after high Space = small high
+small-after high (High h) = small (Some h)
+small-after high (Octet x) = true
+small-after high Comment = true
+small-after high (Bad reason) = true
 
 -- at the end no high digit is left over
 abbrev pub ended : List ℕ → Option ℕ → Result (List ℕ) BadLine

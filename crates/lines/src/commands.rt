@@ -1,5 +1,7 @@
 // The `write` line: the word, the message, and its fields.
 ghost use mathlib.Core.Path.{_≡_};
+ghost use Rattle.std.specs.Options.{orOther};
+ghost use Rattle.lines.specs.Words.{Word, kind-word, name-word, putting};
 ghost use Rattle.std.specs.declared.result.Result.the-variants.{Ok, Err};
 ghost use Rattle.lines.specs.declared.commands.Failed.the-variants.{Bad, Memory};
 use crate::BadLine;
@@ -27,7 +29,7 @@ use vocabulary::Imsi;
 
 // Why a line gives no message: it is bad, or memory is short.
 #[derive(Clone, Copy)]
-pub enum Failed {
+pub(crate) enum Failed {
     Bad(BadLine),
     Memory(AllocError),
 }
@@ -46,7 +48,7 @@ impl From<AllocError> for Failed as MemoryFails {
 
 impl Failed {
     // Why the line is bad, unless memory is short.
-    pub fn reason(self) -> Result<BadLine, AllocError>
+    pub(crate) fn reason(self) -> Result<BadLine, AllocError>
         ensures value { λ r. ⌜ r ≡ elim self [ Bad reason ↦ Ok reason | Memory error ↦ Err error ] ⌝ }
     {
         match self {
@@ -56,7 +58,9 @@ impl Failed {
     }
 }
 
-fn kind_in(text: &str) -> Option<Kind> {
+fn kind_in(text: &str) -> Option<Kind>
+    ensures value { λ r. ⌜ Word kind-word (now (text .entry)) r ⌝ }
+{
     match text {
         "attach" => Some(Kind::Attach),
         "update" => Some(Kind::Update),
@@ -70,7 +74,9 @@ fn kind_in(text: &str) -> Option<Kind> {
     }
 }
 
-fn name_in(text: &str) -> Option<Name> {
+fn name_in(text: &str) -> Option<Name>
+    ensures value { λ r. ⌜ Word name-word (now (text .entry)) r ⌝ }
+{
     match text {
         "imsi" => Some(Name::Imsi),
         "tmsi" => Some(Name::Tmsi),
@@ -88,7 +94,10 @@ fn name_in(text: &str) -> Option<Name> {
 }
 
 // Puts a value into its field, once.
-fn put<T: Drop>(field: &mut Option<T>, value: Option<T>, name: Name) -> Result<(), Failed> {
+fn put<T: Drop>(field: &mut Option<T>, value: Option<T>, name: Name) -> Result<(), Failed>
+    ensures value { λ r. ⌜ r ≡ putting (now (field .entry)) value name ⌝ }
+    ensures after { λ _. ⌜ now (field .exit) ≡ orOther (now (field .entry)) value ⌝ }
+{
     if value.is_none() {
         return Err(Failed::Bad(BadLine::BadValue(name)));
     }
@@ -159,7 +168,7 @@ fn unsent_imsi(kind: Kind) -> Option<Imsi> {
 }
 
 // The message that a line asks for.
-pub fn message_in(heap: Global, line: &str) -> Result<Uplink, Failed> {
+pub(crate) fn message_in(heap: Global, line: &str) -> Result<Uplink, Failed> {
     let text = match line.split_once('#') {
         Some((text, _)) => text,
         None => line,

@@ -22,7 +22,7 @@ use vocabulary::Signature;
 use vocabulary::Tmsi;
 
 #[derive(Clone, Copy)]
-pub enum Kind {
+pub(crate) enum Kind {
     Attach,
     Update,
     Location,
@@ -35,7 +35,7 @@ pub enum Kind {
 
 // The types of updates and detaches, by their words on a line.
 #[derive(Clone, Copy)]
-pub enum TypeWord {
+pub(crate) enum TypeWord {
     Normal,
     Periodic,
     ImsiAttach,
@@ -45,7 +45,7 @@ pub enum TypeWord {
 
 // What a line gives; a key that is given may still be none.
 #[derive(Clone, Copy)]
-pub struct Fields {
+pub(crate) struct Fields {
     pub imsi: Option<Imsi>,
     pub tmsi: Option<Tmsi>,
     pub signature: Option<Signature>,
@@ -60,7 +60,7 @@ pub struct Fields {
 }
 
 // The fields that a message has a use for.
-pub fn belongs(kind: Kind, name: Name) -> bool
+pub(crate) fn belongs(kind: Kind, name: Name) -> bool
     ensures value { λ r. ⌜ r ≡ belongs kind name ⌝ }
 {
     match (kind, name) {
@@ -78,7 +78,7 @@ pub fn belongs(kind: Kind, name: Name) -> bool
 }
 
 // The terminal of a line, each field left out by its default.
-pub fn terminal_of(fields: &Fields) -> Terminal
+pub(crate) fn terminal_of(fields: &Fields) -> Terminal
     ensures classmark { λ r. ⌜ r .classmark ≡ valueOr (now (fields .entry) .classmark) 0x33 ⌝ }
     ensures capability { λ r. ⌜ r .capability ≡ valueOr (now (fields .entry) .capability) (0xe0 ∷ 0x00 ∷ []) ⌝ }
     ensures drx { λ r. ⌜ r .drx ≡ valueOr (now (fields .entry) .drx) (0x00 ∷ 0x00 ∷ []) ⌝ }
@@ -159,7 +159,7 @@ fn detach_of(word: Option<TypeWord>) -> Result<DetachType, BadLine>
 }
 
 // The message that a line asks for, where its terminal is given.
-pub fn message_of(kind: Kind, fields: &Fields, terminal: Terminal) -> Result<Uplink, BadLine>
+pub(crate) fn message_of(kind: Kind, fields: &Fields, terminal: Terminal) -> Result<Uplink, BadLine>
     ensures value { λ r. ⌜ r ≡ message-of kind (now (fields .entry)) terminal ⌝ }
 {
     match kind {

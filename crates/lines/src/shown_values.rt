@@ -22,13 +22,13 @@ fn show_plmn<W: fmt::Write>(plmn: Plmn, f: &mut fmt::Formatter<W>) -> fmt::Resul
     }
 }
 
-pub fn show_lai<W: fmt::Write>(lai: Lai, f: &mut fmt::Formatter<W>) -> fmt::Result {
+pub(crate) fn show_lai<W: fmt::Write>(lai: Lai, f: &mut fmt::Formatter<W>) -> fmt::Result {
     show_plmn(lai.plmn, f)?;
     let lac = lai.lac;
     write!(f, "-{lac:04X}")
 }
 
-pub fn show_rai<W: fmt::Write>(rai: Rai, f: &mut fmt::Formatter<W>) -> fmt::Result {
+pub(crate) fn show_rai<W: fmt::Write>(rai: Rai, f: &mut fmt::Formatter<W>) -> fmt::Result {
     show_lai(rai.lai, f)?;
     let rac = rai.rac;
     write!(f, "-{rac:02X}")
@@ -67,7 +67,7 @@ fn show_equivalents<W: fmt::Write>(
     }
 }
 
-pub fn show_packet<W: fmt::Write>(
+pub(crate) fn show_packet<W: fmt::Write>(
     elements: PacketElements,
     f: &mut fmt::Formatter<W>,
 ) -> fmt::Result {
@@ -101,7 +101,7 @@ fn show_identity<W: fmt::Write>(
     }
 }
 
-pub fn show_circuit<W: fmt::Write>(
+pub(crate) fn show_circuit<W: fmt::Write>(
     elements: CircuitElements,
     f: &mut fmt::Formatter<W>,
 ) -> fmt::Result {
@@ -149,7 +149,7 @@ fn cause_name(cause: Cause) -> &'static str {
     }
 }
 
-pub fn show_cause<W: fmt::Write>(cause: Cause, f: &mut fmt::Formatter<W>) -> fmt::Result {
+pub(crate) fn show_cause<W: fmt::Write>(cause: Cause, f: &mut fmt::Formatter<W>) -> fmt::Result {
     let number = cause_number(cause);
     let name = cause_name(cause);
     write!(f, " cause={number} {name}")

@@ -1,17 +1,18 @@
 // The octets that a text spells in hexadecimal.
 ghost use mathlib.Core.Path.{_≡_};
+ghost use mathlib.Core.Bool.{true};
 ghost use mathlib.Core.List.{[]};
 ghost use Rattle.std.specs.Of.Vec.{vec-items};
 ghost use Rattle.std.specs.Vec.{made};
 ghost use Rattle.std.specs.declared.option.Option.the-variants.{None};
-ghost use Rattle.lines.specs.Spelling.{digit-of, taken, ended, octets-in, spelled};
+ghost use Rattle.lines.specs.Spelling.{digit-of, small, taken, small-after, ended, octets-in, spelled};
 use crate::BadLine;
 use std::alloc::AllocError;
 use std::alloc::Global;
 
 // What a character adds to the octets so far.
 #[derive(Clone, Copy)]
-pub enum Step {
+pub(crate) enum Step {
     Space,
     High(u8),
     Octet(u8),
@@ -21,6 +22,7 @@ pub enum Step {
 
 fn digit_of(character: u8) -> Option<u8>
     ensures value { λ r. ⌜ r ≡ digit-of character ⌝ }
+    ensures bound { λ r. ⌜ small r ≡ true ⌝ }
 {
     match character {
         b'0'..=b'9' => Some(character - b'0'),
@@ -32,10 +34,12 @@ fn digit_of(character: u8) -> Option<u8>
 
 // The next character, after the high digit of an octet or between octets.
 fn taken(high: Option<u8>, character: u8) -> Step
+    requires { ⌜ small high ≡ true ⌝ }
     ensures value { λ r. ⌜ r ≡ taken high character ⌝ }
+    ensures bound { λ r. ⌜ small-after high r ≡ true ⌝ }
 {
     match (high, digit_of(character), character) {
-        (Some(high), Some(low), _) => Step::Octet(high % 16 * 16 + low % 16),
+        (Some(high), Some(low), _) => Step::Octet(high * 16 + low),
         (None, Some(digit), _) => Step::High(digit),
         (None, None, b' ' | b'\t' | b'\r') => Step::Space,
         (None, None, b'#') => Step::Comment,
@@ -54,7 +58,7 @@ fn ended(octets: Vec<u8>, high: Option<u8>) -> Result<Vec<u8>, BadLine>
 }
 
 // The octets of a text, or why it spells none.
-pub fn spelled(heap: Global, text: &[u8]) -> Result<Result<Vec<u8>, BadLine>, AllocError>
+pub(crate) fn spelled(heap: Global, text: &[u8]) -> Result<Result<Vec<u8>, BadLine>, AllocError>
     ensures value { λ r. ⌜ made r (λ x. octets-in x ≡ spelled [] None (now (text .entry))) ⌝ }
 {
     let mut octets = Vec::new(heap);

@@ -4,6 +4,7 @@ ghost use mathlib.Core.List.{[]};
 ghost use Rattle.std.specs.Of.Vec.{vec-items};
 ghost use Rattle.std.specs.Vec.{made};
 ghost use Rattle.lines.specs.Values.{tmsi-in, signature-in, rai-in, lai-in, octet-in, key-in, digit-value, imsi-in, octets-in, octets-or-none};
+ghost use Rattle.lines.specs.Words.{Word, type-word};
 use crate::fields::TypeWord;
 use crate::spelling::spelled;
 use std::alloc::AllocError;
@@ -16,7 +17,7 @@ use vocabulary::Signature;
 use vocabulary::Tmsi;
 
 // The octets that a value spells, or no octets.
-pub fn octets_or_none(heap: Global, text: &[u8]) -> Result<Vec<u8>, AllocError>
+pub(crate) fn octets_or_none(heap: Global, text: &[u8]) -> Result<Vec<u8>, AllocError>
     ensures value { λ r. ⌜ made r (λ v. vec-items v ≡ octets-or-none (now (text .entry))) ⌝ }
 {
     match spelled(heap, text)? {
@@ -25,7 +26,7 @@ pub fn octets_or_none(heap: Global, text: &[u8]) -> Result<Vec<u8>, AllocError>
     }
 }
 
-pub fn tmsi_in(octets: &[u8]) -> Option<Tmsi>
+pub(crate) fn tmsi_in(octets: &[u8]) -> Option<Tmsi>
     ensures value { λ r. ⌜ r ≡ tmsi-in (now (octets .entry)) ⌝ }
 {
     let [a, b, c, d] = octets else {
@@ -34,7 +35,7 @@ pub fn tmsi_in(octets: &[u8]) -> Option<Tmsi>
     Tmsi::new(u32::from_be_bytes([*a, *b, *c, *d]))
 }
 
-pub fn signature_in(octets: &[u8]) -> Option<Signature>
+pub(crate) fn signature_in(octets: &[u8]) -> Option<Signature>
     ensures value { λ r. ⌜ r ≡ signature-in (now (octets .entry)) ⌝ }
 {
     let [a, b, c] = octets else {
@@ -43,7 +44,7 @@ pub fn signature_in(octets: &[u8]) -> Option<Signature>
     Signature::new(u32::from(*a) * 65536 + u32::from(*b) * 256 + u32::from(*c))
 }
 
-pub fn rai_in(octets: &[u8]) -> Option<Rai>
+pub(crate) fn rai_in(octets: &[u8]) -> Option<Rai>
     ensures value { λ r. ⌜ r ≡ rai-in (now (octets .entry)) ⌝ }
 {
     let [a, b, c, d, e, f] = octets else {
@@ -52,7 +53,7 @@ pub fn rai_in(octets: &[u8]) -> Option<Rai>
     Rai::from_octets([*a, *b, *c, *d, *e, *f])
 }
 
-pub fn lai_in(octets: &[u8]) -> Option<Lai>
+pub(crate) fn lai_in(octets: &[u8]) -> Option<Lai>
     ensures value { λ r. ⌜ r ≡ lai-in (now (octets .entry)) ⌝ }
 {
     let [a, b, c, d, e] = octets else {
@@ -61,7 +62,7 @@ pub fn lai_in(octets: &[u8]) -> Option<Lai>
     Lai::from_octets([*a, *b, *c, *d, *e])
 }
 
-pub fn octet_in(octets: &[u8]) -> Option<u8>
+pub(crate) fn octet_in(octets: &[u8]) -> Option<u8>
     ensures value { λ r. ⌜ r ≡ octet-in (now (octets .entry)) ⌝ }
 {
     let [a] = octets else {
@@ -70,7 +71,7 @@ pub fn octet_in(octets: &[u8]) -> Option<u8>
     Some(*a)
 }
 
-pub fn pair_in(octets: &[u8]) -> Option<[u8; 2]>
+pub(crate) fn pair_in(octets: &[u8]) -> Option<[u8; 2]>
     ensures value { λ r. ⌜ r ≡ octets-in 2 (now (octets .entry)) ⌝ }
 {
     if octets.len() != 2 {
@@ -81,7 +82,7 @@ pub fn pair_in(octets: &[u8]) -> Option<[u8; 2]>
     Some(pair)
 }
 
-pub fn twelve_in(octets: &[u8]) -> Option<[u8; 12]>
+pub(crate) fn twelve_in(octets: &[u8]) -> Option<[u8; 12]>
     ensures value { λ r. ⌜ r ≡ octets-in 12 (now (octets .entry)) ⌝ }
 {
     if octets.len() != 12 {
@@ -93,7 +94,7 @@ pub fn twelve_in(octets: &[u8]) -> Option<[u8; 12]>
 }
 
 // A key number from 0 to 6; 7 is none.
-pub fn key_in(text: &[u8]) -> Option<Option<KeyNumber>>
+pub(crate) fn key_in(text: &[u8]) -> Option<Option<KeyNumber>>
     ensures value { λ r. ⌜ r ≡ key-in (now (text .entry)) ⌝ }
 {
     match text {
@@ -102,7 +103,9 @@ pub fn key_in(text: &[u8]) -> Option<Option<KeyNumber>>
     }
 }
 
-pub fn word_in(text: &str) -> Option<TypeWord> {
+pub(crate) fn word_in(text: &str) -> Option<TypeWord>
+    ensures value { λ r. ⌜ Word type-word (now (text .entry)) r ⌝ }
+{
     match text {
         "normal" => Some(TypeWord::Normal),
         "periodic" => Some(TypeWord::Periodic),
@@ -124,7 +127,7 @@ fn digit_value(character: u8) -> u8
 }
 
 // The IMSI that decimal digits spell.
-pub fn imsi_in(heap: Global, text: &[u8]) -> Result<Option<Imsi>, AllocError>
+pub(crate) fn imsi_in(heap: Global, text: &[u8]) -> Result<Option<Imsi>, AllocError>
     ensures value { λ r. ⌜ made r (λ x. x ≡ imsi-in (now (text .entry))) ⌝ }
 {
     let mut digits = Vec::new(heap);
