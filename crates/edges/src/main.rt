@@ -1,4 +1,7 @@
 // The edges of the codec: an answer for each line, and after `cut` for each frame that ends sooner.
+#[cfg(test)]
+mod tests;
+
 use lines::Answer;
 use lines::AnswerDisplay;
 use lines::Line;

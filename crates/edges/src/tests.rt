@@ -1,0 +1,44 @@
+// A few of the edges as tests; the many are the input of the program.
+use frames::Downlink;
+use frames::FrameFault;
+use frames::MobileIdentity;
+use frames::read;
+use std::test::*;
+
+// The number and the octet of a refusal; 0 where the frame is read.
+fn refused(answer: Result<Downlink, FrameFault>) -> (u8, usize) {
+    match answer {
+        Ok(_) => (0, 0),
+        Err(fault) => {
+            let refusal = fault.refusal();
+            (refusal.number, refusal.octet)
+        }
+    }
+}
+
+#[test]
+fn cut_short_comes_before_a_bad_result() -> Result<(), Fail> {
+    check_eq(refused(read(&[0x08, 0x02, 0x02])), (13, 4))
+}
+
+#[test]
+fn bad_value_comes_before_an_earlier_unknown_tag() -> Result<(), Fail> {
+    check_eq(refused(read(&[0x08, 0x06, 0x00, 0x0f, 0x00, 0x2a, 0x00])), (14, 6))
+}
+
+#[test]
+fn second_of_a_tag_is_not_looked_at() -> Result<(), Fail> {
+    check_eq(refused(read(&[0x08, 0x06, 0x00, 0x2a, 0x01, 0x2c, 0x2a, 0x00])), (0, 0))
+}
+
+#[test]
+fn circuit_tag_17_has_a_length_octet() -> Result<(), Fail> {
+    let frame = [0x05, 0x04, 0x0d, 0x17, 0x05, 0xf4, 0x87, 0x65, 0x43, 0x21];
+    match read(&frame) {
+        Ok(Downlink::LocationReject(_, elements)) => match elements.identity {
+            Some(MobileIdentity::Tmsi(tmsi)) => check_eq(tmsi.bits, 0x8765_4321),
+            _ => Err(Fail::new("no TMSI was read")),
+        },
+        _ => Err(Fail::new("the reject was not read")),
+    }
+}
