@@ -40,6 +40,7 @@ use Rattle.frames.specs.declared.tags.Side.{Side}
 use Rattle.frames.specs.declared.tags.Side.the-variants.{Packet, Circuit}
 use Rattle.frames.proofs.LawsAreas.{from, take-from, lai-stands, rai-stands}
 use Rattle.frames.proofs.LawsElements.{whole-elements}
+use Rattle.frames.proofs.LawsPlaces.{decimal-places}
 
 real-area : (a : Lai) → NoMarkArea a
 real-area a mark = let h = a .lawful in grind (arith, tells)
@@ -107,7 +108,7 @@ module _ (xs : List ℕ) (octets : (i : ℕ) → getD xs i 0 < 256) (least : 2 �
 
   obeys : (m : Downlink) → take 2 xs ≡ frame-kind m → fixed-octets m ≤ length xs → Elements (side-of m) (drop (fixed-octets m) xs) → AreaStands m xs → Obeys m xs
   obeys m kind fixed elements area =
-      record { within = (least, most); kind = kind; fixed = fixed; elements = elements; no-marks = real m; area = area }
+      record { within = (least, most); kind = kind; fixed = fixed; elements = elements; no-marks = real m; area = area; places = decimal-places m }
 
   attach-accept-obeys : take 2 xs ≡ 0x08 ∷ 0x02 ∷ [] → made (attach-accept xs) Lawful
   attach-accept-obeys kind =

@@ -4,11 +4,13 @@ use mathlib.Core.Path.{_≡_}
 use mathlib.Core.List.{List, [], _∷_, _++_}
 use Prim.Native.Nat.{ℕ, _+_, _/_, _<_, _≤_}
 use lib.ListN.{length, take, drop}
+use Rattle.std.specs.shelf.Lists.{All}
 use Rattle.std.specs.declared.option.Option.{Option}
 use Rattle.std.specs.declared.option.Option.the-variants.{Some, None}
 use Rattle.vocabulary.specs.Places.{lai-octets, rai-octets}
 use Rattle.vocabulary.specs.declared.values.Imsi.{Imsi}
 use Rattle.vocabulary.specs.declared.values.Lai.{Lai}
+use Rattle.vocabulary.specs.declared.values.Plmn.{Plmn}
 use Rattle.vocabulary.specs.declared.values.Rai.{Rai}
 use Rattle.vocabulary.specs.declared.values.Signature.{Signature}
 use Rattle.vocabulary.specs.declared.values.Tmsi.{Tmsi}
@@ -17,6 +19,7 @@ use Rattle.frames.specs.declared.downlink.Downlink.the-variants.{AttachAccept,
 use Rattle.frames.specs.declared.downlink.MobileIdentity.{MobileIdentity}
 use Rattle.frames.specs.declared.downlink.MobileIdentity.the-variants as identity
 use Rattle.frames.specs.declared.downlink.PacketElements.{PacketElements}
+use Rattle.frames.specs.declared.downlink.PlmnList.{PlmnList}
 use Rattle.frames.specs.declared.tags.Side.{Side}
 use Rattle.frames.specs.declared.tags.Side.the-variants.{Packet, Circuit}
 use Rattle.frames.specs.declared.uplink.Uplink.{Uplink}
@@ -118,6 +121,37 @@ AreaStands (UpdateReject c es) xs = Unit {0}
 AreaStands (LocationAccept a es) xs = lai-octets (Some a) ≡ take 5 (drop 2 xs)
 AreaStands (LocationReject c es) xs = Unit {0}
 
+-- a third digit of the network code, where there is one
+abbrev pub ThirdDigit : Option ℕ → Type 0
+ThirdDigit (Some n) = n < 10
+ThirdDigit None = Unit {0}
+
+-- decimal digits in the country code and in the network code
+pub record Decimal (p : Plmn) : Type 0 where
+  pub country : (p .mcc1 < 10) × (p .mcc2 < 10) × (p .mcc3 < 10)
+  pub network : (p .mnc1 < 10) × (p .mnc2 < 10)
+  pub third : ThirdDigit (p .mnc3)
+
+-- an entry of a list, where it is filled
+abbrev pub DecimalEntry : Option Plmn → Type 0
+DecimalEntry (Some p) = Decimal p
+DecimalEntry None = Unit {0}
+
+-- each of the equivalent networks
+abbrev pub DecimalList : Option PlmnList → Type 0
+DecimalList (Some l) = All DecimalEntry (l .entries)
+DecimalList None = Unit {0}
+
+-- every network that a message names has decimal digits
+abbrev pub DecimalPlaces : Downlink → Type 0
+DecimalPlaces (AttachAccept a) = Decimal (a .rai .lai .plmn) × DecimalList (a .elements .equivalents)
+DecimalPlaces (AttachReject c es) = DecimalList (es .equivalents)
+DecimalPlaces (DetachAccept es) = DecimalList (es .equivalents)
+DecimalPlaces (UpdateAccept a) = Decimal (a .rai .lai .plmn) × DecimalList (a .elements .equivalents)
+DecimalPlaces (UpdateReject c es) = DecimalList (es .equivalents)
+DecimalPlaces (LocationAccept a es) = Decimal (a .plmn) × DecimalList (es .equivalents)
+DecimalPlaces (LocationReject c es) = DecimalList (es .equivalents)
+
 -- what is read out of a frame obeys the layout
 pub record Obeys (m : Downlink) (xs : List ℕ) : Type 0 where
   pub within : (2 ≤ length xs) × (length xs ≤ 251)
@@ -126,6 +160,7 @@ pub record Obeys (m : Downlink) (xs : List ℕ) : Type 0 where
   pub elements : Elements (side-of m) (drop (fixed-octets m) xs)
   pub no-marks : NoMarks m
   pub area : AreaStands m xs
+  pub places : DecimalPlaces m
 
 -- the protocol of a message and its type
 abbrev pub message-kind : Uplink → List ℕ
