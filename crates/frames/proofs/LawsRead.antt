@@ -24,7 +24,7 @@ use Rattle.vocabulary.specs.declared.values.Signature.{Signature}
 use Rattle.vocabulary.specs.declared.values.Tmsi.{Tmsi}
 use Rattle.frames.specs.Causes.{cause-of}
 use Rattle.frames.specs.Decoded.{area-in, lai-in, onward, framed, packet-accept, attach-accepted, attach-accept, attach-rejected, attach-reject, detach-accepted, detach-accept, update-accepted, update-accept, update-rejected, update-reject, location-accepted, location-accept, location-rejected, location-reject, begins, by-kind, decoded}
-use Rattle.frames.specs.Elements.{nothing, walk, packet-elements, circuit-elements}
+use Rattle.frames.specs.Elements.{nothing, walk, judged, packet-elements, circuit-elements}
 use Rattle.frames.specs.Laws.{NoMarks, NoMarkArea, NoMarkTmsi, NoMarkSignature, NoMarkIdentity, NoMarksPacket, AreaStands, Elements, Obeys, frame-kind, fixed-octets, side-of}
 use Rattle.frames.specs.declared.downlink.Downlink.{Downlink}
 use Rattle.frames.specs.declared.downlink.Downlink.the-variants.{AttachAccept, AttachReject, DetachAccept, UpdateAccept, UpdateReject, LocationAccept, LocationReject}
@@ -39,7 +39,7 @@ use Rattle.frames.specs.declared.found.Found.{Found}
 use Rattle.frames.specs.declared.tags.Side.{Side}
 use Rattle.frames.specs.declared.tags.Side.the-variants.{Packet, Circuit}
 use Rattle.frames.proofs.LawsAreas.{from, take-from, lai-stands, rai-stands}
-use Rattle.frames.proofs.LawsElements.{whole-elements}
+use Rattle.frames.proofs.LawsElements.{octets-drop, whole-elements}
 use Rattle.frames.proofs.LawsPlaces.{decimal-places}
 
 real-area : (a : Lai) → NoMarkArea a
@@ -77,81 +77,97 @@ first-two a b xs h e =
     let two = eqb-true (getD xs 1 0) b (both .1) in
     take-from 2 0 xs h ∙ (λ k. one k ∷ two k ∷ [])
 
+judged-right : {X : Type 0} (bad low : Option ℕ) (x y : X) → judged bad low x ≡ Ok y → (bad ≡ None) × (low ≡ None) × (x ≡ y)
+judged-right (Some at) low x y e = let z : _≡_ {A = ℕ} 0 1 = cc in absurd (omega arith)
+judged-right None (Some at) x y e = let z : _≡_ {A = ℕ} 0 1 = cc in absurd (omega arith)
+judged-right None None x y e = (refl, refl, cc)
+
 onward-made : {X Y : Type 0} (r : Result X ElementFault) (next : X → Result Y FrameFault) (P : Y → Type 0)
     → ((x : X) → r ≡ Ok x → made (next x) P) → made (onward r next) P
 onward-made (Err e) next P then = tt
 onward-made (Ok x) next P then = then x refl
 
 framed-made : {Y : Type 0} (side : Side) (n : ℕ) (xs : List ℕ) (next : Found → Result Y FrameFault) (P : Y → Type 0)
-    → ((f : Found) → n ≤ length xs → Elements side (drop n xs) → made (next f) P) → made (framed side n xs next) P
+    → ((f : Found) → n ≤ length xs → walk side nothing (n + 1) (drop n xs) 0 ≡ Ok f → made (next f) P) → made (framed side n xs next) P
 framed-made side n xs next P then =
-    let rest = between n (length xs) xs in
     cond-both (ltb (length xs) n) _ _ (λ r. made r P) (λ cut. tt)
-    (λ fits. onward-made (walk side nothing (n + 1) rest 0) next P
-    (λ f e. then f (ltb-false _ _ fits) (subst (Elements side) (take-rest xs n) (whole-elements (length rest) side nothing f (n + 1) rest (omega arith) e))))
+    (λ fits. onward-made (walk side nothing (n + 1) (between n (length xs) xs) 0) next P
+    (λ f e. then f (ltb-false _ _ fits) (subst (λ ys. walk side nothing (n + 1) ys 0 ≡ Ok f) (take-rest xs n) e)))
 
 accept-made : (accept : PacketAccept → Downlink) (timer at : ℕ) (area : Option Rai) (f : Found) (P : Downlink → Type 0)
-    → ((a : PacketAccept) → area ≡ Some (a .rai) → P (accept a)) → made (packet-accept accept timer at area f) P
+    → ((a : PacketAccept) → area ≡ Some (a .rai) → packet-elements f ≡ Ok (a .elements) → P (accept a)) → made (packet-accept accept timer at area f) P
 accept-made accept timer at None f P then = tt
 accept-made accept timer at (Some rai) f P then =
     onward-made (packet-elements f) (λ es. Ok (accept (record { t3312 = gprs-seconds timer; rai = rai; elements = es }))) P
-    (λ es _. then (record { t3312 = gprs-seconds timer; rai = rai; elements = es }) refl)
+    (λ es right. then (record { t3312 = gprs-seconds timer; rai = rai; elements = es }) refl right)
 
 location-made : (area : Option Lai) (f : Found) (P : Downlink → Type 0)
-    → ((a : Lai) (es : CircuitElements) → area ≡ Some a → P (LocationAccept a es)) → made (location-accepted area f) P
+    → ((a : Lai) (es : CircuitElements) → area ≡ Some a → circuit-elements f ≡ Ok es → P (LocationAccept a es)) → made (location-accepted area f) P
 location-made None f P then = tt
-location-made (Some a) f P then = onward-made (circuit-elements f) (λ es. Ok (LocationAccept a es)) P (λ es _. then a es refl)
+location-made (Some a) f P then = onward-made (circuit-elements f) (λ es. Ok (LocationAccept a es)) P (λ es right. then a es refl right)
 
 module _ (xs : List ℕ) (octets : (i : ℕ) → getD xs i 0 < 256) (least : 2 ≤ length xs) (most : length xs ≤ 251) where
   abbrev Lawful : Downlink → Type 0
   Lawful m = Obeys m xs
 
-  obeys : (m : Downlink) → take 2 xs ≡ frame-kind m → fixed-octets m ≤ length xs → Elements (side-of m) (drop (fixed-octets m) xs) → AreaStands m xs → Obeys m xs
+  abbrev After : Downlink → Type 0
+  After m = Elements (side-of m) (drop (fixed-octets m) xs)
+
+  obeys : (m : Downlink) → take 2 xs ≡ frame-kind m → fixed-octets m ≤ length xs → After m → AreaStands m xs → Obeys m xs
   obeys m kind fixed elements area =
       record { within = (least, most); kind = kind; fixed = fixed; elements = elements; no-marks = real m; area = area; places = decimal-places m }
+
+  packet-after : (n : ℕ) (f : Found) (es : PacketElements) → walk Packet nothing (n + 1) (drop n xs) 0 ≡ Ok f → packet-elements f ≡ Ok es → Elements Packet (drop n xs)
+  packet-after n f es e right = whole-elements Packet f (n + 1) (drop n xs) (octets-drop n xs octets) (judged-right (f .bad) (f .low) _ es right .1) e
+
+  circuit-after : (n : ℕ) (f : Found) (es : CircuitElements) → walk Circuit nothing (n + 1) (drop n xs) 0 ≡ Ok f → circuit-elements f ≡ Ok es → Elements Circuit (drop n xs)
+  circuit-after n f es e right = whole-elements Circuit f (n + 1) (drop n xs) (octets-drop n xs octets) (judged-right (f .bad) (f .low) _ es right .1) e
 
   attach-accept-obeys : take 2 xs ≡ 0x08 ∷ 0x02 ∷ [] → made (attach-accept xs) Lawful
   attach-accept-obeys kind =
       framed-made Packet 11 xs (attach-accepted (getD xs 2 0) (getD xs 3 0) (area-in (from 6 5 xs))) Lawful
-      (λ f long elements. cond-both (eqb (getD xs 2 0 % 16) 1) _ _ (λ r. made r Lawful)
-      (λ _. accept-made AttachAccept (getD xs 3 0) 6 (area-in (from 6 5 xs)) f Lawful (λ a stands. obeys (AttachAccept a) kind long elements (rai-stands 5 xs octets (a .rai) long stands)))
+      (λ f long e. cond-both (eqb (getD xs 2 0 % 16) 1) _ _ (λ r. made r Lawful)
+      (λ _. accept-made AttachAccept (getD xs 3 0) 6 (area-in (from 6 5 xs)) f Lawful
+      (λ a stands right. obeys (AttachAccept a) kind long (packet-after 11 f (a .elements) e right) (rai-stands 5 xs octets (a .rai) long stands)))
       (λ _. tt))
 
   update-accept-obeys : take 2 xs ≡ 0x08 ∷ 0x09 ∷ [] → made (update-accept xs) Lawful
   update-accept-obeys kind =
       framed-made Packet 10 xs (update-accepted (getD xs 2 0) (getD xs 3 0) (area-in (from 6 4 xs))) Lawful
-      (λ f long elements. cond-both (eqb (getD xs 2 0 / 16) 0) _ _ (λ r. made r Lawful)
-      (λ _. accept-made UpdateAccept (getD xs 3 0) 5 (area-in (from 6 4 xs)) f Lawful (λ a stands. obeys (UpdateAccept a) kind long elements (rai-stands 4 xs octets (a .rai) long stands)))
+      (λ f long e. cond-both (eqb (getD xs 2 0 / 16) 0) _ _ (λ r. made r Lawful)
+      (λ _. accept-made UpdateAccept (getD xs 3 0) 5 (area-in (from 6 4 xs)) f Lawful
+      (λ a stands right. obeys (UpdateAccept a) kind long (packet-after 10 f (a .elements) e right) (rai-stands 4 xs octets (a .rai) long stands)))
       (λ _. tt))
 
   attach-reject-obeys : take 2 xs ≡ 0x08 ∷ 0x04 ∷ [] → made (attach-reject xs) Lawful
   attach-reject-obeys kind =
       framed-made Packet 3 xs (attach-rejected (getD xs 2 0)) Lawful
-      (λ f long elements. onward-made (packet-elements f) (λ es. Ok (AttachReject (cause-of (getD xs 2 0)) es)) Lawful
-      (λ es _. obeys (AttachReject (cause-of (getD xs 2 0)) es) kind long elements tt))
+      (λ f long e. onward-made (packet-elements f) (λ es. Ok (AttachReject (cause-of (getD xs 2 0)) es)) Lawful
+      (λ es right. obeys (AttachReject (cause-of (getD xs 2 0)) es) kind long (packet-after 3 f es e right) tt))
 
   update-reject-obeys : take 2 xs ≡ 0x08 ∷ 0x0b ∷ [] → made (update-reject xs) Lawful
   update-reject-obeys kind =
       framed-made Packet 4 xs (update-rejected (getD xs 2 0)) Lawful
-      (λ f long elements. onward-made (packet-elements f) (λ es. Ok (UpdateReject (cause-of (getD xs 2 0)) es)) Lawful
-      (λ es _. obeys (UpdateReject (cause-of (getD xs 2 0)) es) kind long elements tt))
+      (λ f long e. onward-made (packet-elements f) (λ es. Ok (UpdateReject (cause-of (getD xs 2 0)) es)) Lawful
+      (λ es right. obeys (UpdateReject (cause-of (getD xs 2 0)) es) kind long (packet-after 4 f es e right) tt))
 
   detach-accept-obeys : take 2 xs ≡ 0x08 ∷ 0x06 ∷ [] → made (detach-accept xs) Lawful
   detach-accept-obeys kind =
       framed-made Packet 3 xs detach-accepted Lawful
-      (λ f long elements. onward-made (packet-elements f) (λ es. Ok (DetachAccept es)) Lawful
-      (λ es _. obeys (DetachAccept es) kind long elements tt))
+      (λ f long e. onward-made (packet-elements f) (λ es. Ok (DetachAccept es)) Lawful
+      (λ es right. obeys (DetachAccept es) kind long (packet-after 3 f es e right) tt))
 
   location-accept-obeys : take 2 xs ≡ 0x05 ∷ 0x02 ∷ [] → made (location-accept xs) Lawful
   location-accept-obeys kind =
       framed-made Circuit 7 xs (location-accepted (lai-in (from 5 2 xs))) Lawful
-      (λ f long elements. location-made (lai-in (from 5 2 xs)) f Lawful (λ a es stands. obeys (LocationAccept a es) kind long elements (lai-stands 2 xs octets a long stands)))
+      (λ f long e. location-made (lai-in (from 5 2 xs)) f Lawful
+      (λ a es stands right. obeys (LocationAccept a es) kind long (circuit-after 7 f es e right) (lai-stands 2 xs octets a long stands)))
 
   location-reject-obeys : take 2 xs ≡ 0x05 ∷ 0x04 ∷ [] → made (location-reject xs) Lawful
   location-reject-obeys kind =
       framed-made Circuit 3 xs (location-rejected (getD xs 2 0)) Lawful
-      (λ f long elements. onward-made (circuit-elements f) (λ es. Ok (LocationReject (cause-of (getD xs 2 0)) es)) Lawful
-      (λ es _. obeys (LocationReject (cause-of (getD xs 2 0)) es) kind long elements tt))
+      (λ f long e. onward-made (circuit-elements f) (λ es. Ok (LocationReject (cause-of (getD xs 2 0)) es)) Lawful
+      (λ es right. obeys (LocationReject (cause-of (getD xs 2 0)) es) kind long (circuit-after 3 f es e right) tt))
 
   -- one kind, or else another
   either : (a b : ℕ) (this others : Result Downlink FrameFault) → (take 2 xs ≡ a ∷ b ∷ [] → made this Lawful) → made others Lawful → made (cond (begins a b xs) this others) Lawful

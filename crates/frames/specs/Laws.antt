@@ -64,18 +64,18 @@ abbrev pub Unlengthed : Side → ℕ → Type 0
 Unlengthed Packet tag = (tag ≡ 0x19) ⊎ ((tag ≡ 0x17) ⊎ (tag ≡ 0x25))
 Unlengthed Circuit tag = ⊥
 
--- all octets after a tag: none from 80 on, those of a fixed number, or a length octet and as many as it says
-pub data Part : Side → ℕ → List ℕ → Type 0 where
-  alone : {side : Side} {tag : ℕ} → 0x80 ≤ tag → Part side tag []
-  signature : (a b c : ℕ) → Part Packet 0x19 (a ∷ b ∷ c ∷ [])
-  ready-timer : (a : ℕ) → Part Packet 0x17 (a ∷ [])
-  gmm-cause : (a : ℕ) → Part Packet 0x25 (a ∷ [])
-  lengthed : {side : Side} {tag : ℕ} → tag < 0x80 → (Unlengthed side tag → ⊥) → (value : List ℕ) → Part side tag (length value ∷ value)
+-- the value of an element and all octets after its tag: none from 80 on, a fixed number of them, or a length octet and as many as it says
+pub data Part : Side → ℕ → List ℕ → List ℕ → Type 0 where
+  alone : {side : Side} {tag : ℕ} → 0x80 ≤ tag → Part side tag [] []
+  signature : (a b c : ℕ) → Part Packet 0x19 (a ∷ b ∷ c ∷ []) (a ∷ b ∷ c ∷ [])
+  ready-timer : (a : ℕ) → Part Packet 0x17 (a ∷ []) (a ∷ [])
+  gmm-cause : (a : ℕ) → Part Packet 0x25 (a ∷ []) (a ∷ [])
+  lengthed : {side : Side} {tag : ℕ} → tag < 0x80 → (Unlengthed side tag → ⊥) → (value : List ℕ) → Part side tag value (length value ∷ value)
 
--- element after element, each whole, up to the end of the frame
+-- element after element, each whole and none with a tag below 10, up to the end of the frame
 pub data Elements : Side → List ℕ → Type 0 where
   none : {side : Side} → Elements side []
-  more : {side : Side} {tag : ℕ} {part rest : List ℕ} → Part side tag part → Elements side rest → Elements side (tag ∷ (part ++ rest))
+  more : {side : Side} {tag : ℕ} {value part rest : List ℕ} → 0x10 ≤ tag → Part side tag value part → Elements side rest → Elements side (tag ∷ (part ++ rest))
 
 -- an area code that is not the mark FFFE
 abbrev pub NoMarkArea : Lai → Type 0
