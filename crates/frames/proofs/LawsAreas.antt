@@ -29,28 +29,28 @@ take-from zero k xs h = refl
 take-from (suc n) k xs h =
     ap (take (suc n)) (drop-more xs k 0 (omega arith)) ∙ ap (λ ys. getD xs k 0 ∷ ys) (take-from n (k + 1) xs (omega arith))
 
-never : {X : Type 0} {x : X} → None ≡ Some x → ⊥
+pub never : {X : Type 0} {x : X} → None ≡ Some x → ⊥
 never e = let z : _≡_ {A = ℕ} 0 1 = cc in omega arith
 
-when-some : {X : Type 0} (b : Bool) (make : b ≡ true → X) (x : X) → when b make ≡ Some x → (p : b ≡ true) × (make p ≡ x)
+pub when-some : {X : Type 0} (b : Bool) (make : b ≡ true → X) (x : X) → when b make ≡ Some x → (p : b ≡ true) × (make p ≡ x)
 when-some true make x e = (refl, cc)
 when-some false make x e = absurd (never e)
 
-then-some : {X Y : Type 0} (o : Option X) (ask : X → Option Y) (y : Y) → then o ask ≡ Some y → (x : X) × (o ≡ Some x) × (ask x ≡ Some y)
+pub then-some : {X Y : Type 0} (o : Option X) (ask : X → Option Y) (y : Y) → then o ask ≡ Some y → (x : X) × (o ≡ Some x) × (ask x ≡ Some y)
 then-some None ask y e = absurd (never e)
 then-some (Some x) ask y e = (x, refl, e)
 
-mapped-some : {X Y : Type 0} (f : X → Y) (o : Option X) (y : Y) → mapped f o ≡ Some y → (x : X) × (o ≡ Some x) × (f x ≡ y)
+pub mapped-some : {X Y : Type 0} (f : X → Y) (o : Option X) (y : Y) → mapped f o ≡ Some y → (x : X) × (o ≡ Some x) × (f x ≡ y)
 mapped-some f None y e = absurd (never e)
 mapped-some f (Some x) y e = (x, refl, cc)
 
-halves : (n : ℕ) → n / 16 * 16 + n % 16 ≡ n
+pub halves : (n : ℕ) → n / 16 * 16 + n % 16 ≡ n
 halves n = omega arith
 
 third : (n : ℕ) → third-half (third-of n) ≡ n
 third n = cond-both (eqb n 15) None (Some n) (λ o. third-half o ≡ n) (λ e. sym (eqb-true n 15 e)) (λ _. refl)
 
-plmn-stands : (a b c : ℕ) (p : Plmn) → plmn-of a b c ≡ Some p → plmn-octets p ≡ a ∷ b ∷ c ∷ []
+pub plmn-stands : (a b c : ℕ) (p : Plmn) → plmn-of a b c ≡ Some p → plmn-octets p ≡ a ∷ b ∷ c ∷ []
 unfolding plmn-when
 plmn-stands a b c p e =
     let got =

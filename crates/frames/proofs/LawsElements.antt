@@ -77,7 +77,7 @@ part-whole Circuit tag ys =
     (λ low. valued Circuit tag ys (leb-false _ _ low) (λ never. never))
 
 -- whatever tag, one of the meanings
-meant : (side : Side) (tag : ℕ) (P : Known → Type 0) → (tag ≡ 0x19 → P PTmsiSignature) → (tag ≡ 0x18 → P PTmsi) → (tag ≡ 0x2a → P T3302) → (tag ≡ 0x17 → P Identity) → (tag ≡ 0x4a → P Equivalents) → (tag < 0x10 → P BelowTen) → (0x10 ≤ tag → P Skipped) → P (meaning side tag)
+pub meant : (side : Side) (tag : ℕ) (P : Known → Type 0) → (tag ≡ 0x19 → P PTmsiSignature) → (tag ≡ 0x18 → P PTmsi) → (tag ≡ 0x2a → P T3302) → (tag ≡ 0x17 → P Identity) → (tag ≡ 0x4a → P Equivalents) → (tag < 0x10 → P BelowTen) → (0x10 ≤ tag → P Skipped) → P (meaning side tag)
 meant Packet tag P signed p-tmsi timed named listed low skipped =
     cond-both (eqb tag 0x19) _ _ P (λ e. signed (eqb-true _ _ e))
     (λ _. cond-both (eqb tag 0x18) _ _ P (λ e. p-tmsi (eqb-true _ _ e))

@@ -25,7 +25,7 @@ use Rattle.vocabulary.specs.declared.values.Tmsi.{Tmsi}
 use Rattle.frames.specs.Causes.{cause-of}
 use Rattle.frames.specs.Decoded.{area-in, lai-in, onward, framed, packet-accept, attach-accepted, attach-accept, attach-rejected, attach-reject, detach-accepted, detach-accept, update-accepted, update-accept, update-rejected, update-reject, location-accepted, location-accept, location-rejected, location-reject, begins, by-kind, decoded}
 use Rattle.frames.specs.Elements.{nothing, walk, judged, packet-elements, circuit-elements}
-use Rattle.frames.specs.Laws.{NoMarks, NoMarkArea, NoMarkTmsi, NoMarkSignature, NoMarkIdentity, NoMarksPacket, AreaStands, Elements, Obeys, frame-kind, fixed-octets, side-of}
+use Rattle.frames.specs.Laws.{NoMarks, NoMarkArea, NoMarkTmsi, NoMarkSignature, NoMarkIdentity, NoMarksPacket, AreaStands, Elements, PacketValues, ValuesStand, Obeys, frame-kind, fixed-octets, side-of}
 use Rattle.frames.specs.declared.downlink.Downlink.{Downlink}
 use Rattle.frames.specs.declared.downlink.Downlink.the-variants.{AttachAccept, AttachReject, DetachAccept, UpdateAccept, UpdateReject, LocationAccept, LocationReject}
 use Rattle.frames.specs.declared.downlink.MobileIdentity.{MobileIdentity}
@@ -41,6 +41,7 @@ use Rattle.frames.specs.declared.tags.Side.the-variants.{Packet, Circuit}
 use Rattle.frames.proofs.LawsAreas.{from, take-from, lai-stands, rai-stands}
 use Rattle.frames.proofs.LawsElements.{octets-drop, whole-elements}
 use Rattle.frames.proofs.LawsPlaces.{decimal-places}
+use Rattle.frames.proofs.LawsSlots.{packet-found, packet-values}
 
 real-area : (a : Lai) → NoMarkArea a
 real-area a mark = let h = a .lawful in grind (arith, tells)
@@ -110,18 +111,18 @@ module _ (xs : List ℕ) (octets : (i : ℕ) → getD xs i 0 < 256) (least : 2 �
   abbrev Lawful : Downlink → Type 0
   Lawful m = Obeys m xs
 
-  abbrev After : Downlink → Type 0
-  After m = Elements (side-of m) (drop (fixed-octets m) xs)
+  obeys : (m : Downlink) → take 2 xs ≡ frame-kind m → fixed-octets m ≤ length xs → Elements (side-of m) (drop (fixed-octets m) xs) × ValuesStand m (drop (fixed-octets m) xs) → AreaStands m xs → Obeys m xs
+  obeys m kind fixed after area =
+      record { within = (least, most); kind = kind; fixed = fixed; elements = after .0; values = after .1; no-marks = real m; area = area; places = decimal-places m }
 
-  obeys : (m : Downlink) → take 2 xs ≡ frame-kind m → fixed-octets m ≤ length xs → After m → AreaStands m xs → Obeys m xs
-  obeys m kind fixed elements area =
-      record { within = (least, most); kind = kind; fixed = fixed; elements = elements; no-marks = real m; area = area; places = decimal-places m }
+  packet-after : (n : ℕ) (f : Found) (es : PacketElements) → walk Packet nothing (n + 1) (drop n xs) 0 ≡ Ok f → packet-elements f ≡ Ok es → Elements Packet (drop n xs) × PacketValues es (drop n xs)
+  packet-after n f es e right =
+      let told = judged-right (f .bad) (f .low) (packet-found f) es right in
+      let small = octets-drop n xs octets in
+      (whole-elements Packet f (n + 1) (drop n xs) small (told .1) e, packet-values f es (n + 1) (drop n xs) (told .2) small (told .0) e)
 
-  packet-after : (n : ℕ) (f : Found) (es : PacketElements) → walk Packet nothing (n + 1) (drop n xs) 0 ≡ Ok f → packet-elements f ≡ Ok es → Elements Packet (drop n xs)
-  packet-after n f es e right = whole-elements Packet f (n + 1) (drop n xs) (octets-drop n xs octets) (judged-right (f .bad) (f .low) _ es right .1) e
-
-  circuit-after : (n : ℕ) (f : Found) (es : CircuitElements) → walk Circuit nothing (n + 1) (drop n xs) 0 ≡ Ok f → circuit-elements f ≡ Ok es → Elements Circuit (drop n xs)
-  circuit-after n f es e right = whole-elements Circuit f (n + 1) (drop n xs) (octets-drop n xs octets) (judged-right (f .bad) (f .low) _ es right .1) e
+  circuit-after : (n : ℕ) (f : Found) (es : CircuitElements) → walk Circuit nothing (n + 1) (drop n xs) 0 ≡ Ok f → circuit-elements f ≡ Ok es → Elements Circuit (drop n xs) × Unit {0}
+  circuit-after n f es e right = (whole-elements Circuit f (n + 1) (drop n xs) (octets-drop n xs octets) (judged-right (f .bad) (f .low) _ es right .1) e, tt)
 
   attach-accept-obeys : take 2 xs ≡ 0x08 ∷ 0x02 ∷ [] → made (attach-accept xs) Lawful
   attach-accept-obeys kind =

@@ -4,4 +4,7 @@ pub mod LawsWritten
 pub mod LawsAreas
 pub mod LawsElements
 pub mod LawsPlaces
+pub mod LawsFirst
+pub mod LawsCodes
+pub mod LawsSlots
 pub mod LawsRead

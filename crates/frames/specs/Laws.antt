@@ -14,6 +14,7 @@ use Rattle.vocabulary.specs.declared.values.Plmn.{Plmn}
 use Rattle.vocabulary.specs.declared.values.Rai.{Rai}
 use Rattle.vocabulary.specs.declared.values.Signature.{Signature}
 use Rattle.vocabulary.specs.declared.values.Tmsi.{Tmsi}
+use Rattle.frames.specs.LawsValues.{CodesSignature, CodesTmsi, CodesTimer}
 use Rattle.frames.specs.declared.downlink.Downlink.{Downlink}
 use Rattle.frames.specs.declared.downlink.Downlink.the-variants.{AttachAccept, AttachReject, DetachAccept, UpdateAccept, UpdateReject, LocationAccept, LocationReject}
 use Rattle.frames.specs.declared.downlink.MobileIdentity.{MobileIdentity}
@@ -76,6 +77,33 @@ pub data Part : Side → ℕ → List ℕ → List ℕ → Type 0 where
 pub data Elements : Side → List ℕ → Type 0 where
   none : {side : Side} → Elements side []
   more : {side : Side} {tag : ℕ} {value part rest : List ℕ} → 0x10 ≤ tag → Part side tag value part → Elements side rest → Elements side (tag ∷ (part ++ rest))
+
+-- the value of the first element of a tag, or none where no element has that tag
+pub data First : Side → ℕ → List ℕ → Option (List ℕ) → Type 0 where
+  absent : {side : Side} {tag : ℕ} → First side tag [] None
+  here : {side : Side} {tag : ℕ} {value part : List ℕ} (rest : List ℕ) → Part side tag value part → First side tag (tag ∷ (part ++ rest)) (Some value)
+  later : {side : Side} {tag other : ℕ} {value part rest : List ℕ} {first : Option (List ℕ)} → other ≢ tag → Part side other value part → First side tag rest first → First side tag (other ∷ (part ++ rest)) first
+
+-- what is read is what the first element of a tag codes, and none exactly where no element has that tag
+abbrev pub FromFirst : {X : Type 0} → Side → ℕ → (List ℕ → X → Type 0) → Option X → List ℕ → Type 0
+FromFirst side tag Codes None xs = First side tag xs None
+FromFirst side tag Codes (Some x) xs = (value : List ℕ) × First side tag xs (Some value) × Codes value x
+
+-- the elements of the packet side: P-TMSI signature, P-TMSI and T3302
+pub record PacketValues (es : PacketElements) (xs : List ℕ) : Type 0 where
+  pub signature : FromFirst Packet 0x19 CodesSignature (es .signature) xs
+  pub p-tmsi : FromFirst Packet 0x18 CodesTmsi (es .«p_tmsi») xs
+  pub t3302 : FromFirst Packet 0x2a CodesTimer (es .t3302) xs
+
+-- the elements that a message gives are those of the octets after the fixed ones
+abbrev pub ValuesStand : Downlink → List ℕ → Type 0
+ValuesStand (AttachAccept a) xs = PacketValues (a .elements) xs
+ValuesStand (AttachReject c es) xs = PacketValues es xs
+ValuesStand (DetachAccept es) xs = PacketValues es xs
+ValuesStand (UpdateAccept a) xs = PacketValues (a .elements) xs
+ValuesStand (UpdateReject c es) xs = PacketValues es xs
+ValuesStand (LocationAccept a es) xs = Unit {0}
+ValuesStand (LocationReject c es) xs = Unit {0}
 
 -- an area code that is not the mark FFFE
 abbrev pub NoMarkArea : Lai → Type 0
@@ -158,6 +186,7 @@ pub record Obeys (m : Downlink) (xs : List ℕ) : Type 0 where
   pub kind : take 2 xs ≡ frame-kind m
   pub fixed : fixed-octets m ≤ length xs
   pub elements : Elements (side-of m) (drop (fixed-octets m) xs)
+  pub values : ValuesStand m (drop (fixed-octets m) xs)
   pub no-marks : NoMarks m
   pub area : AreaStands m xs
   pub places : DecimalPlaces m

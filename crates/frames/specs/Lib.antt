@@ -5,6 +5,7 @@ pub mod Elements
 pub mod Examples
 pub mod Faults
 pub mod Laws
+pub mod LawsValues
 pub mod Octets
 pub mod Sizes
 pub mod Tags

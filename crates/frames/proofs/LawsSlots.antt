@@ -1,0 +1,39 @@
+-- Each value that is read is that of the first element of its tag.
+use mathlib.Core.Path.{_≡_, refl, sym, subst}
+use mathlib.Core.List.{List}
+use Prim.Native.Nat.{ℕ}
+use Rattle.std.specs.declared.option.Option.the-variants.{None}
+use Rattle.std.specs.declared.result.Result.the-variants.{Ok}
+use Rattle.frames.specs.Elements.{nothing, walk, noted}
+use Rattle.frames.specs.Laws.{PacketValues}
+use Rattle.frames.specs.LawsValues.{CodesTmsi, CodesSignature, CodesTimer}
+use Rattle.frames.specs.Values.{tmsi-value, signature-value, timer-value}
+use Rattle.frames.specs.declared.downlink.PacketElements.{PacketElements}
+use Rattle.frames.specs.declared.found.Found.{Found}
+use Rattle.frames.specs.declared.tags.Side.the-variants.{Packet}
+use Rattle.frames.proofs.LawsCodes.{codes-tmsi, codes-signature, codes-timer}
+use Rattle.frames.proofs.LawsElements.{Octets, meant}
+use Rattle.frames.proofs.LawsFirst.{from-first}
+
+abbrev pub packet-found : Found → PacketElements
+packet-found f = record { signature = f .signature; «p_tmsi» = f .«p_tmsi»; t3302 = f .t3302; equivalents = f .equivalents }
+
+pub packet-values : (g : Found) (es : PacketElements) (at : ℕ) (xs : List ℕ) → packet-found g ≡ es → Octets xs → g .bad ≡ None → walk Packet nothing at xs 0 ≡ Ok g → PacketValues es xs
+packet-values g es at xs same octets clean e =
+    subst (λ x. PacketValues x xs) same (record {
+      signature =
+          from-first Packet 0x19 CodesSignature (λ f. f .signature) signature-value (λ f v at. refl) (λ f v at. refl)
+          (λ other f v at ne. meant Packet other (λ k. noted k f v at .signature ≡ f .signature)
+          (λ t. absurd (ne t)) (λ _. refl) (λ _. refl) (λ _. refl) (λ _. refl) (λ _. refl) (λ _. refl))
+          codes-signature g at xs refl octets clean e;
+      p-tmsi =
+          from-first Packet 0x18 CodesTmsi (λ f. f .«p_tmsi») tmsi-value (λ f v at. refl) (λ f v at. refl)
+          (λ other f v at ne. meant Packet other (λ k. noted k f v at .«p_tmsi» ≡ f .«p_tmsi»)
+          (λ _. refl) (λ t. absurd (ne t)) (λ _. refl) (λ _. refl) (λ _. refl) (λ _. refl) (λ _. refl))
+          codes-tmsi g at xs refl octets clean e;
+      t3302 =
+          from-first Packet 0x2a CodesTimer (λ f. f .t3302) timer-value (λ f v at. refl) (λ f v at. refl)
+          (λ other f v at ne. meant Packet other (λ k. noted k f v at .t3302 ≡ f .t3302)
+          (λ _. refl) (λ _. refl) (λ t. absurd (ne t)) (λ _. refl) (λ _. refl) (λ _. refl) (λ _. refl))
+          codes-timer g at xs refl octets clean e;
+    })
