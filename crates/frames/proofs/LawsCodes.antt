@@ -20,7 +20,7 @@ use Rattle.frames.specs.Values.{coded-tmsi, tmsi-value, signature-value, timer
 use Rattle.frames.proofs.LawsAreas.{from, take-from, never, when-some}
 use Rattle.frames.proofs.LawsElements.{Octets}
 
-cond-some : {X : Type 0} (b : Bool) (o : Option X) (x : X) → cond b o None ≡ Some x → (b ≡ true) × (o ≡ Some x)
+pub cond-some : {X : Type 0} (b : Bool) (o : Option X) (x : X) → cond b o None ≡ Some x → (b ≡ true) × (o ≡ Some x)
 cond-some true o x e = (refl, e)
 cond-some false o x e = absurd (never e)
 

@@ -25,7 +25,7 @@ use Rattle.vocabulary.specs.declared.values.Tmsi.{Tmsi}
 use Rattle.frames.specs.Causes.{cause-of}
 use Rattle.frames.specs.Decoded.{area-in, lai-in, onward, framed, packet-accept, attach-accepted, attach-accept, attach-rejected, attach-reject, detach-accepted, detach-accept, update-accepted, update-accept, update-rejected, update-reject, location-accepted, location-accept, location-rejected, location-reject, begins, by-kind, decoded}
 use Rattle.frames.specs.Elements.{nothing, walk, judged, packet-elements, circuit-elements}
-use Rattle.frames.specs.Laws.{NoMarks, NoMarkArea, NoMarkTmsi, NoMarkSignature, NoMarkIdentity, NoMarksPacket, AreaStands, Elements, PacketValues, ValuesStand, Obeys, frame-kind, fixed-octets, side-of}
+use Rattle.frames.specs.Laws.{NoMarks, NoMarkArea, NoMarkTmsi, NoMarkSignature, NoMarkIdentity, NoMarksPacket, AreaStands, Elements, PacketValues, CircuitValues, ValuesStand, Obeys, frame-kind, fixed-octets, side-of}
 use Rattle.frames.specs.declared.downlink.Downlink.{Downlink}
 use Rattle.frames.specs.declared.downlink.Downlink.the-variants.{AttachAccept, AttachReject, DetachAccept, UpdateAccept, UpdateReject, LocationAccept, LocationReject}
 use Rattle.frames.specs.declared.downlink.MobileIdentity.{MobileIdentity}
@@ -41,7 +41,7 @@ use Rattle.frames.specs.declared.tags.Side.the-variants.{Packet, Circuit}
 use Rattle.frames.proofs.LawsAreas.{from, take-from, lai-stands, rai-stands}
 use Rattle.frames.proofs.LawsElements.{octets-drop, whole-elements}
 use Rattle.frames.proofs.LawsPlaces.{decimal-places}
-use Rattle.frames.proofs.LawsSlots.{packet-found, packet-values}
+use Rattle.frames.proofs.LawsSlots.{packet-found, packet-values, circuit-found, circuit-values}
 
 real-area : (a : Lai) → NoMarkArea a
 real-area a mark = let h = a .lawful in grind (arith, tells)
@@ -121,8 +121,11 @@ module _ (xs : List ℕ) (octets : (i : ℕ) → getD xs i 0 < 256) (least : 2 �
       let small = octets-drop n xs octets in
       (whole-elements Packet f (n + 1) (drop n xs) small (told .1) e, packet-values f es (n + 1) (drop n xs) (told .2) small (told .0) e)
 
-  circuit-after : (n : ℕ) (f : Found) (es : CircuitElements) → walk Circuit nothing (n + 1) (drop n xs) 0 ≡ Ok f → circuit-elements f ≡ Ok es → Elements Circuit (drop n xs) × Unit {0}
-  circuit-after n f es e right = (whole-elements Circuit f (n + 1) (drop n xs) (octets-drop n xs octets) (judged-right (f .bad) (f .low) _ es right .1) e, tt)
+  circuit-after : (n : ℕ) (f : Found) (es : CircuitElements) → walk Circuit nothing (n + 1) (drop n xs) 0 ≡ Ok f → circuit-elements f ≡ Ok es → Elements Circuit (drop n xs) × CircuitValues es (drop n xs)
+  circuit-after n f es e right =
+      let told = judged-right (f .bad) (f .low) (circuit-found f) es right in
+      let small = octets-drop n xs octets in
+      (whole-elements Circuit f (n + 1) (drop n xs) small (told .1) e, circuit-values f es (n + 1) (drop n xs) (told .2) small (told .0) e)
 
   attach-accept-obeys : take 2 xs ≡ 0x08 ∷ 0x02 ∷ [] → made (attach-accept xs) Lawful
   attach-accept-obeys kind =

@@ -5,15 +5,17 @@ use Prim.Native.Nat.{ℕ}
 use Rattle.std.specs.declared.option.Option.the-variants.{None}
 use Rattle.std.specs.declared.result.Result.the-variants.{Ok}
 use Rattle.frames.specs.Elements.{nothing, walk, noted}
-use Rattle.frames.specs.Laws.{PacketValues}
-use Rattle.frames.specs.LawsValues.{CodesTmsi, CodesSignature, CodesTimer}
-use Rattle.frames.specs.Values.{tmsi-value, signature-value, timer-value}
+use Rattle.frames.specs.Laws.{PacketValues, CircuitValues}
+use Rattle.frames.specs.LawsValues.{CodesTmsi, CodesSignature, CodesTimer, CodesPlmns}
+use Rattle.frames.specs.Values.{tmsi-value, signature-value, timer-value, plmns-value}
+use Rattle.frames.specs.declared.downlink.CircuitElements.{CircuitElements}
 use Rattle.frames.specs.declared.downlink.PacketElements.{PacketElements}
 use Rattle.frames.specs.declared.found.Found.{Found}
-use Rattle.frames.specs.declared.tags.Side.the-variants.{Packet}
+use Rattle.frames.specs.declared.tags.Side.the-variants.{Packet, Circuit}
 use Rattle.frames.proofs.LawsCodes.{codes-tmsi, codes-signature, codes-timer}
 use Rattle.frames.proofs.LawsElements.{Octets, meant}
 use Rattle.frames.proofs.LawsFirst.{from-first}
+use Rattle.frames.proofs.LawsPlmns.{codes-plmns}
 
 abbrev pub packet-found : Found → PacketElements
 packet-found f = record { signature = f .signature; «p_tmsi» = f .«p_tmsi»; t3302 = f .t3302; equivalents = f .equivalents }
@@ -36,4 +38,22 @@ packet-values g es at xs same octets clean e =
           (λ other f v at ne. meant Packet other (λ k. noted k f v at .t3302 ≡ f .t3302)
           (λ _. refl) (λ _. refl) (λ t. absurd (ne t)) (λ _. refl) (λ _. refl) (λ _. refl) (λ _. refl))
           codes-timer g at xs refl octets clean e;
+      equivalents =
+          from-first Packet 0x4a CodesPlmns (λ f. f .equivalents) plmns-value (λ f v at. refl) (λ f v at. refl)
+          (λ other f v at ne. meant Packet other (λ k. noted k f v at .equivalents ≡ f .equivalents)
+          (λ _. refl) (λ _. refl) (λ _. refl) (λ _. refl) (λ t. absurd (ne t)) (λ _. refl) (λ _. refl))
+          codes-plmns g at xs refl octets clean e;
+    })
+
+abbrev pub circuit-found : Found → CircuitElements
+circuit-found f = record { identity = f .identity; equivalents = f .equivalents }
+
+pub circuit-values : (g : Found) (es : CircuitElements) (at : ℕ) (xs : List ℕ) → circuit-found g ≡ es → Octets xs → g .bad ≡ None → walk Circuit nothing at xs 0 ≡ Ok g → CircuitValues es xs
+circuit-values g es at xs same octets clean e =
+    subst (λ x. CircuitValues x xs) same (record {
+      equivalents =
+          from-first Circuit 0x4a CodesPlmns (λ f. f .equivalents) plmns-value (λ f v at. refl) (λ f v at. refl)
+          (λ other f v at ne. meant Circuit other (λ k. noted k f v at .equivalents ≡ f .equivalents)
+          (λ _. refl) (λ _. refl) (λ _. refl) (λ _. refl) (λ t. absurd (ne t)) (λ _. refl) (λ _. refl))
+          codes-plmns g at xs refl octets clean e;
     })

@@ -6,5 +6,6 @@ pub mod LawsElements
 pub mod LawsPlaces
 pub mod LawsFirst
 pub mod LawsCodes
+pub mod LawsPlmns
 pub mod LawsSlots
 pub mod LawsRead

@@ -14,7 +14,8 @@ use Rattle.vocabulary.specs.declared.values.Plmn.{Plmn}
 use Rattle.vocabulary.specs.declared.values.Rai.{Rai}
 use Rattle.vocabulary.specs.declared.values.Signature.{Signature}
 use Rattle.vocabulary.specs.declared.values.Tmsi.{Tmsi}
-use Rattle.frames.specs.LawsValues.{CodesSignature, CodesTmsi, CodesTimer}
+use Rattle.frames.specs.LawsValues.{CodesSignature, CodesTmsi, CodesTimer, CodesPlmns}
+use Rattle.frames.specs.declared.downlink.CircuitElements.{CircuitElements}
 use Rattle.frames.specs.declared.downlink.Downlink.{Downlink}
 use Rattle.frames.specs.declared.downlink.Downlink.the-variants.{AttachAccept, AttachReject, DetachAccept, UpdateAccept, UpdateReject, LocationAccept, LocationReject}
 use Rattle.frames.specs.declared.downlink.MobileIdentity.{MobileIdentity}
@@ -89,11 +90,16 @@ abbrev pub FromFirst : {X : Type 0} → Side → ℕ → (List ℕ → X → Typ
 FromFirst side tag Codes None xs = First side tag xs None
 FromFirst side tag Codes (Some x) xs = (value : List ℕ) × First side tag xs (Some value) × Codes value x
 
--- the elements of the packet side: P-TMSI signature, P-TMSI and T3302
+-- the elements of the packet side: P-TMSI signature, P-TMSI, T3302 and equivalent PLMNs
 pub record PacketValues (es : PacketElements) (xs : List ℕ) : Type 0 where
   pub signature : FromFirst Packet 0x19 CodesSignature (es .signature) xs
   pub p-tmsi : FromFirst Packet 0x18 CodesTmsi (es .«p_tmsi») xs
   pub t3302 : FromFirst Packet 0x2a CodesTimer (es .t3302) xs
+  pub equivalents : FromFirst Packet 0x4a CodesPlmns (es .equivalents) xs
+
+-- the elements of the circuit side: equivalent PLMNs
+pub record CircuitValues (es : CircuitElements) (xs : List ℕ) : Type 0 where
+  pub equivalents : FromFirst Circuit 0x4a CodesPlmns (es .equivalents) xs
 
 -- the elements that a message gives are those of the octets after the fixed ones
 abbrev pub ValuesStand : Downlink → List ℕ → Type 0
@@ -102,8 +108,8 @@ ValuesStand (AttachReject c es) xs = PacketValues es xs
 ValuesStand (DetachAccept es) xs = PacketValues es xs
 ValuesStand (UpdateAccept a) xs = PacketValues (a .elements) xs
 ValuesStand (UpdateReject c es) xs = PacketValues es xs
-ValuesStand (LocationAccept a es) xs = Unit {0}
-ValuesStand (LocationReject c es) xs = Unit {0}
+ValuesStand (LocationAccept a es) xs = CircuitValues es xs
+ValuesStand (LocationReject c es) xs = CircuitValues es xs
 
 -- an area code that is not the mark FFFE
 abbrev pub NoMarkArea : Lai → Type 0
