@@ -6,8 +6,8 @@ use Rattle.std.specs.declared.option.Option.the-variants.{None}
 use Rattle.std.specs.declared.result.Result.the-variants.{Ok}
 use Rattle.frames.specs.Elements.{nothing, walk, noted}
 use Rattle.frames.specs.Laws.{PacketValues, CircuitValues}
-use Rattle.frames.specs.LawsValues.{CodesTmsi, CodesSignature, CodesTimer, CodesPlmns}
-use Rattle.frames.specs.Values.{tmsi-value, signature-value, timer-value, plmns-value}
+use Rattle.frames.specs.LawsValues.{CodesTmsi, CodesSignature, CodesTimer, CodesPlmns, CodesIdentity}
+use Rattle.frames.specs.Values.{tmsi-value, identity-value, signature-value, timer-value, plmns-value}
 use Rattle.frames.specs.declared.downlink.CircuitElements.{CircuitElements}
 use Rattle.frames.specs.declared.downlink.PacketElements.{PacketElements}
 use Rattle.frames.specs.declared.found.Found.{Found}
@@ -15,6 +15,7 @@ use Rattle.frames.specs.declared.tags.Side.the-variants.{Packet, Circuit}
 use Rattle.frames.proofs.LawsCodes.{codes-tmsi, codes-signature, codes-timer}
 use Rattle.frames.proofs.LawsElements.{Octets, meant}
 use Rattle.frames.proofs.LawsFirst.{from-first}
+use Rattle.frames.proofs.LawsIdentities.{codes-identity}
 use Rattle.frames.proofs.LawsPlmns.{codes-plmns}
 
 abbrev pub packet-found : Found → PacketElements
@@ -51,6 +52,11 @@ circuit-found f = record { identity = f .identity; equivalents = f .equivalents 
 pub circuit-values : (g : Found) (es : CircuitElements) (at : ℕ) (xs : List ℕ) → circuit-found g ≡ es → Octets xs → g .bad ≡ None → walk Circuit nothing at xs 0 ≡ Ok g → CircuitValues es xs
 circuit-values g es at xs same octets clean e =
     subst (λ x. CircuitValues x xs) same (record {
+      identity =
+          from-first Circuit 0x17 CodesIdentity (λ f. f .identity) identity-value (λ f v at. refl) (λ f v at. refl)
+          (λ other f v at ne. meant Circuit other (λ k. noted k f v at .identity ≡ f .identity)
+          (λ _. refl) (λ _. refl) (λ _. refl) (λ t. absurd (ne t)) (λ _. refl) (λ _. refl) (λ _. refl))
+          codes-identity g at xs refl octets clean e;
       equivalents =
           from-first Circuit 0x4a CodesPlmns (λ f. f .equivalents) plmns-value (λ f v at. refl) (λ f v at. refl)
           (λ other f v at ne. meant Circuit other (λ k. noted k f v at .equivalents ≡ f .equivalents)

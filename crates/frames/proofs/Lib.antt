@@ -7,5 +7,6 @@ pub mod LawsPlaces
 pub mod LawsFirst
 pub mod LawsCodes
 pub mod LawsPlmns
+pub mod LawsIdentities
 pub mod LawsSlots
 pub mod LawsRead

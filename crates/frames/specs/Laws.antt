@@ -14,7 +14,7 @@ use Rattle.vocabulary.specs.declared.values.Plmn.{Plmn}
 use Rattle.vocabulary.specs.declared.values.Rai.{Rai}
 use Rattle.vocabulary.specs.declared.values.Signature.{Signature}
 use Rattle.vocabulary.specs.declared.values.Tmsi.{Tmsi}
-use Rattle.frames.specs.LawsValues.{CodesSignature, CodesTmsi, CodesTimer, CodesPlmns}
+use Rattle.frames.specs.LawsValues.{CodesSignature, CodesTmsi, CodesTimer, CodesPlmns, CodesIdentity}
 use Rattle.frames.specs.declared.downlink.CircuitElements.{CircuitElements}
 use Rattle.frames.specs.declared.downlink.Downlink.{Downlink}
 use Rattle.frames.specs.declared.downlink.Downlink.the-variants.{AttachAccept, AttachReject, DetachAccept, UpdateAccept, UpdateReject, LocationAccept, LocationReject}
@@ -97,8 +97,9 @@ pub record PacketValues (es : PacketElements) (xs : List ℕ) : Type 0 where
   pub t3302 : FromFirst Packet 0x2a CodesTimer (es .t3302) xs
   pub equivalents : FromFirst Packet 0x4a CodesPlmns (es .equivalents) xs
 
--- the elements of the circuit side: equivalent PLMNs
+-- the elements of the circuit side: mobile identity and equivalent PLMNs
 pub record CircuitValues (es : CircuitElements) (xs : List ℕ) : Type 0 where
+  pub identity : FromFirst Circuit 0x17 CodesIdentity (es .identity) xs
   pub equivalents : FromFirst Circuit 0x4a CodesPlmns (es .equivalents) xs
 
 -- the elements that a message gives are those of the octets after the fixed ones
