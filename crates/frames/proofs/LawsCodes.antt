@@ -1,16 +1,16 @@
 -- A value that is read out of octets is coded by the same octets.
 use mathlib.Core.Path.{_≡_, refl, sym, ap, _∙_}
-use mathlib.Core.Bool.{Bool, true, false, cond, _&&_}
-use mathlib.Core.List.{List, [], _∷_, _++_}
-use Prim.Native.Nat.{ℕ, _+_, _*_, _/_, _%_, _≤_, _<_}
+use mathlib.Core.Bool.{Bool, true, false, cond}
+use mathlib.Core.List.{List, [], _∷_}
+use Prim.Native.Nat.{ℕ, _+_, _*_, _/_, _%_, _<_}
 use native.Mathlib.Omega.{arith}
-use lib.Dec.{ltb, eqb}
-use lib.ListN.{length, take, drop, getD}
+use lib.Dec.{eqb}
+use lib.ListN.{length, getD}
 use Rattle.std.proofs.shelf.Lists.{take-all}
 use Rattle.std.proofs.shelf.Tests.{eqb-true, and-parts}
 use Rattle.std.specs.declared.option.Option.{Option}
 use Rattle.std.specs.declared.option.Option.the-variants.{Some, None}
-use Rattle.vocabulary.specs.Identities.{four-octets, three-octets, tmsi-when, tmsi-of, tmsi-octets, signature-when, signature-of, signature-octets}
+use Rattle.vocabulary.specs.Identities.{four-octets, three-octets, tmsi-when, tmsi-of, signature-when, signature-of}
 use Rattle.vocabulary.specs.Marks.{lawful-tmsi, lawful-signature}
 use Rattle.vocabulary.specs.Timers.{gprs-seconds}
 use Rattle.vocabulary.specs.declared.values.Signature.{Signature}

@@ -76,7 +76,7 @@ part-whole Circuit tag ys =
     cond-both (leb 0x80 tag) _ _ (Whole Circuit tag ys) (λ high h. alone (leb-true _ _ high))
     (λ low. valued Circuit tag ys (leb-false _ _ low) (λ never. never))
 
--- whatever tag, one of the meanings
+-- what holds of each meaning that a tag may have
 pub meant : (side : Side) (tag : ℕ) (P : Known → Type 0) → (tag ≡ 0x19 → P PTmsiSignature) → (tag ≡ 0x18 → P PTmsi) → (tag ≡ 0x2a → P T3302) → (tag ≡ 0x17 → P Identity) → (tag ≡ 0x4a → P Equivalents) → (tag < 0x10 → P BelowTen) → (0x10 ≤ tag → P Skipped) → P (meaning side tag)
 meant Packet tag P signed p-tmsi timed named listed low skipped =
     cond-both (eqb tag 0x19) _ _ P (λ e. signed (eqb-true _ _ e))
@@ -89,6 +89,7 @@ meant Circuit tag P signed p-tmsi timed named listed low skipped =
     (λ _. cond-both (eqb tag 0x4a) _ _ P (λ e. listed (eqb-true _ _ e))
     (λ _. cond-both (ltb tag 0x10) _ _ P (λ e. low (ltb-true _ _ e)) (λ e. skipped (ltb-false _ _ e))))
 
+-- octets, each below 256
 abbrev pub Octets : List ℕ → Type 0
 Octets xs = (i : ℕ) → getD xs i 0 < 256
 
@@ -105,7 +106,7 @@ octets-drop n xs small i = omega (arith, getD-drop n xs i 0, small (n + i))
 octets-value : (how : Layout) (ys : List ℕ) → Octets ys → Octets (value-in how ys)
 octets-value how ys small = octets-take (end how ys - begin how) (drop (begin how) ys) (octets-drop (begin how) ys small)
 
--- what an element leaves as it was holds of all of them
+-- what holds at the end, and before each element where it holds after it, holds from the first element on
 module _ (side : Side) (g : Found) (P : Found → List ℕ → Type 0) (done : P g [])
     (step : (tag at : ℕ) (f : Found) (value part rest : List ℕ) → Part side tag value part → Octets value → P (noted (meaning side tag) f value at) rest → P f (tag ∷ (part ++ rest))) where
   pub walked : (n : ℕ) (f : Found) (at : ℕ) (xs : List ℕ) → length xs ≤ n → Octets xs → walk side f at xs 0 ≡ Ok g → P f xs

@@ -12,7 +12,7 @@ use Rattle.std.specs.declared.option.Option.{Option}
 use Rattle.std.specs.declared.option.Option.the-variants.{Some, None}
 use Rattle.std.specs.declared.result.Result.the-variants.{Ok}
 use Rattle.frames.specs.Elements.{nothing, walk, blame, noted}
-use Rattle.frames.specs.Laws.{Part, First, FromFirst}
+use Rattle.frames.specs.Laws.{Part, FromFirst}
 use Rattle.frames.specs.Laws.First.{absent, here, later}
 use Rattle.frames.specs.Tags.{meaning}
 use Rattle.frames.specs.Values.{tmsi-value, identity-value, signature-value, timer-value, plmns-value}

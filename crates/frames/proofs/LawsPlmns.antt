@@ -1,6 +1,6 @@
 -- A list of networks that is read out of octets is coded by the same octets.
-use mathlib.Core.Path.{_≡_, refl, sym, ap, subst, _∙_}
-use mathlib.Core.Bool.{Bool, true, false, cond, _&&_}
+use mathlib.Core.Path.{_≡_, refl, sym, ap, _∙_}
+use mathlib.Core.Bool.{_&&_}
 use mathlib.Core.List.{List, [], _∷_, _++_, map}
 use Prim.Native.Nat.{ℕ, zero, suc, _+_, _-_, _*_, _/_, _%_, _≤_, _<_}
 use native.Mathlib.Omega.{arith}
@@ -27,6 +27,7 @@ abbrev chain : ℕ → ℕ → List ℕ → (List (Option Plmn) → PlmnList) �
 chain zero k v make = Some (make [])
 chain (suc n) k v make = then (entry v k) (λ a. chain n (k + 1) v (λ ps. make (a ∷ ps)))
 
+-- what those entries are
 abbrev Each : ℕ → ℕ → List ℕ → List (Option Plmn) → Type 0
 Each zero k v [] = Unit {0}
 Each zero k v (a ∷ ps) = ⊥

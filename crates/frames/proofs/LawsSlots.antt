@@ -1,5 +1,5 @@
 -- Each value that is read is that of the first element of its tag.
-use mathlib.Core.Path.{_≡_, refl, sym, subst}
+use mathlib.Core.Path.{_≡_, refl, subst}
 use mathlib.Core.List.{List}
 use Prim.Native.Nat.{ℕ}
 use Rattle.std.specs.declared.option.Option.the-variants.{None}
@@ -18,6 +18,7 @@ use Rattle.frames.proofs.LawsFirst.{from-first}
 use Rattle.frames.proofs.LawsIdentities.{codes-identity}
 use Rattle.frames.proofs.LawsPlmns.{codes-plmns}
 
+-- the elements of a side, as they were found
 abbrev pub packet-found : Found → PacketElements
 packet-found f = record { signature = f .signature; «p_tmsi» = f .«p_tmsi»; t3302 = f .t3302; equivalents = f .equivalents }
 

@@ -102,7 +102,7 @@ pub record CircuitValues (es : CircuitElements) (xs : List ℕ) : Type 0 where
   pub identity : FromFirst Circuit 0x17 CodesIdentity (es .identity) xs
   pub equivalents : FromFirst Circuit 0x4a CodesPlmns (es .equivalents) xs
 
--- the elements that a message gives are those of the octets after the fixed ones
+-- the values that a message gives, by the octets after the fixed ones
 abbrev pub ValuesStand : Downlink → List ℕ → Type 0
 ValuesStand (AttachAccept a) xs = PacketValues (a .elements) xs
 ValuesStand (AttachReject c es) xs = PacketValues es xs
