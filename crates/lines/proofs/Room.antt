@@ -1,18 +1,15 @@
 -- Every message has room in an area of 64 octets.
 use mathlib.Core.Path.{_≡_, refl, _∙_}
-use mathlib.Core.Bool.{Bool}
-use mathlib.Core.List.{List, _++_}
-use Prim.Native.Nat.{ℕ, _+_, _≤_}
+use mathlib.Core.List.{List}
+use Prim.Native.Nat.{ℕ, _≤_}
 use native.Mathlib.Omega.{arith}
 use lib.Dec.{eqb, ltb, lit≤}
-use lib.ListN.{length, take, getD, length-append, length-take}
+use lib.ListN.{length, length-append, length-take}
 use Rattle.std.proofs.shelf.Tests.{and-parts, eqb-true, cond-false, le-ltb}
 use Rattle.std.specs.declared.option.Option.{Option}
 use Rattle.std.specs.declared.option.Option.the-variants.{Some, None}
-use Rattle.std.specs.declared.result.Result.{Result}
 use Rattle.std.specs.declared.result.Result.the-variants.{Ok, Err}
 use Rattle.vocabulary.specs.Places.{lai-octets, rai-octets}
-use Rattle.vocabulary.specs.Identities.{imsi-octets}
 use Rattle.vocabulary.specs.declared.values.Imsi.{Imsi}
 use Rattle.vocabulary.specs.declared.values.Lai.{Lai}
 use Rattle.vocabulary.specs.declared.values.Rai.{Rai}

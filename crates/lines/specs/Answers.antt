@@ -13,7 +13,6 @@ use Rattle.frames.specs.declared.uplink.Uplink.{Uplink}
 use Rattle.frames.specs.declared.faults.FrameFault.{FrameFault}
 use Rattle.lines.specs.declared.answers.Answer.{Answer}
 use Rattle.lines.specs.declared.answers.Answer.the-variants.{Nothing, Read, Refused, Written, Bad}
-use Rattle.lines.specs.declared.answers.Octets.{Octets}
 use Rattle.lines.specs.declared.asked.Line.{Line}
 use Rattle.lines.specs.declared.asked.Line.the-variants as line
 

@@ -8,7 +8,6 @@ use Rattle.std.specs.declared.option.Option.{Option}
 use Rattle.std.specs.declared.option.Option.the-variants.{Some, None}
 use Rattle.std.specs.declared.result.Result.{Result}
 use Rattle.std.specs.declared.result.Result.the-variants.{Ok, Err}
-use Rattle.lines.specs.declared.asked.BadLine.{BadLine}
 use Rattle.lines.specs.declared.asked.BadLine.the-variants.{BadValue, RepeatedField}
 use Rattle.lines.specs.declared.asked.Name.{Name}
 use Rattle.lines.specs.declared.asked.Name.the-variants as name

@@ -1,6 +1,5 @@
 // The values of fields: most are octets, an IMSI and a key number are digits, a type is a word.
 ghost use mathlib.Core.Path.{_≡_};
-ghost use mathlib.Core.List.{[]};
 ghost use Rattle.std.specs.Of.Vec.{vec-items};
 ghost use Rattle.std.specs.Vec.{made};
 ghost use Rattle.lines.specs.Values.{tmsi-in, signature-in, rai-in, lai-in, octet-in, key-in, digit-value, imsi-in, octets-in, octets-or-none};

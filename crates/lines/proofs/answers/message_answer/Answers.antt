@@ -1,4 +1,4 @@
-use mathlib.Core.Path.{_≡_, refl}
+use mathlib.Core.Path.{refl}
 use lib.ListN.{replicate}
 use Rattle.lines.proofs.Room.{never-full}
 use Rattle.lines.proofs.answers.message_answer.Needs as need
