@@ -3,18 +3,19 @@
 mod tests;
 
 use lines::Answer;
-use lines::AnswerDisplay;
 use lines::Line;
 use lines::answer_to;
 use lines::frame_answer;
 use lines::line_in;
+use shown::Shown;
+use shown::ShownDisplay;
 use std::alloc::Global;
 use std::io;
 
 fn show(rt: &LibcRuntime, line: &Line) -> io::Result<()> {
     match answer_to(line) {
         Answer::Nothing => Ok(()),
-        answer => println!(rt, "{answer}"),
+        answer => println!(rt, "{}", Shown(answer)),
     }
 }
 
@@ -25,7 +26,7 @@ fn show_cuts(rt: &LibcRuntime, line: &Line) -> io::Result<()> {
     };
     let whole = octets.as_slice();
     for len in 1..whole.len() {
-        let answer = frame_answer(&whole[0..len]);
+        let answer = Shown(frame_answer(&whole[0..len]));
         println!(rt, "{len}: {answer}")?;
     }
     Ok(())

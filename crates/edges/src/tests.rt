@@ -23,12 +23,18 @@ fn cut_short_comes_before_a_bad_result() -> Result<(), Fail> {
 
 #[test]
 fn bad_value_comes_before_an_earlier_unknown_tag() -> Result<(), Fail> {
-    check_eq(refused(read(&[0x08, 0x06, 0x00, 0x0f, 0x00, 0x2a, 0x00])), (14, 6))
+    check_eq(
+        refused(read(&[0x08, 0x06, 0x00, 0x0f, 0x00, 0x2a, 0x00])),
+        (14, 6),
+    )
 }
 
 #[test]
 fn second_of_a_tag_is_not_looked_at() -> Result<(), Fail> {
-    check_eq(refused(read(&[0x08, 0x06, 0x00, 0x2a, 0x01, 0x2c, 0x2a, 0x00])), (0, 0))
+    check_eq(
+        refused(read(&[0x08, 0x06, 0x00, 0x2a, 0x01, 0x2c, 0x2a, 0x00])),
+        (0, 0),
+    )
 }
 
 // The TMSI that a location updating reject carries; 0 where there is none.

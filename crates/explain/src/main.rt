@@ -1,8 +1,9 @@
 // Explains frames of the network and writes messages of the modem: a line of output for each line of input that is not blank.
 use lines::Answer;
-use lines::AnswerDisplay;
 use lines::answer_to;
 use lines::line_in;
+use shown::Shown;
+use shown::ShownDisplay;
 use std::io;
 
 fn main(rt: LibcRuntime) -> io::Result<()> {
@@ -13,10 +14,10 @@ fn main(rt: LibcRuntime) -> io::Result<()> {
         match answer_to(&line_in(heap, text?.as_str())?) {
             Answer::Nothing => {}
             Answer::Bad(reason) => {
-                let answer = Answer::Bad(reason);
+                let answer = Shown(Answer::Bad(reason));
                 println!(rt, "line {number}: {answer}")?;
             }
-            answer => println!(rt, "{answer}")?,
+            answer => println!(rt, "{}", Shown(answer))?,
         }
     }
     Ok(())

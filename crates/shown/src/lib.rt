@@ -1,17 +1,19 @@
 // Answers as they are shown: one line each.
-use crate::Answer;
-use crate::BadLine;
-use crate::Name;
-use crate::Octets;
-use crate::shown_values::show_cause;
-use crate::shown_values::show_circuit;
-use crate::shown_values::show_lai;
-use crate::shown_values::show_packet;
-use crate::shown_values::show_rai;
+mod values;
+
 use frames::Downlink;
 use frames::PacketAccept;
 use frames::Uplink;
+use lines::Answer;
+use lines::BadLine;
+use lines::Name;
+use lines::Octets;
 use std::fmt;
+use values::show_cause;
+use values::show_circuit;
+use values::show_lai;
+use values::show_packet;
+use values::show_rai;
 use vocabulary::Layer;
 use vocabulary::Refusal;
 
@@ -131,9 +133,13 @@ fn show_bad<W: fmt::Write>(reason: BadLine, f: &mut fmt::Formatter<W>) -> fmt::R
     }
 }
 
-pub impl fmt::Display for Answer as AnswerDisplay {
+// An answer that is shown as a line of text.
+#[derive(Clone, Copy)]
+pub struct Shown(pub Answer);
+
+pub impl fmt::Display for Shown as ShownDisplay {
     fn fmt<W: fmt::Write>(&self, f: &mut fmt::Formatter<W>) -> fmt::Result {
-        match *self {
+        match self.0 {
             Answer::Nothing => Ok(()),
             Answer::Read(message) => show_read(message, f),
             Answer::Refused(refusal) => show_refusal(refusal, f),
