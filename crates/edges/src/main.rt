@@ -1,11 +1,8 @@
 // The edges of the codec: an answer for each line, and after `cut` for each frame that ends sooner.
-#[cfg(test)]
-mod tests;
-
-use lines::Answer;
-use lines::Line;
-use lines::answer_to;
-use lines::frame_answer;
+use answers::Answer;
+use answers::Line;
+use answers::answer_to;
+use answers::frame_answer;
 use lines::line_in;
 use shown::Shown;
 use shown::ShownDisplay;

@@ -1,6 +1,6 @@
 // Explains frames of the network and writes messages of the modem: a line of output for each line of input that is not blank.
-use lines::Answer;
-use lines::answer_to;
+use answers::Answer;
+use answers::answer_to;
 use lines::line_in;
 use shown::Shown;
 use shown::ShownDisplay;

@@ -8,9 +8,9 @@ use lib.ListN.{getD, length}
 use Rattle.std.specs.Of.Vec.{vec-items}
 use Rattle.std.specs.declared.result.Result.{Result}
 use Rattle.std.specs.declared.result.Result.the-variants.{Ok, Err}
-use Rattle.lines.specs.declared.asked.BadLine.{BadLine}
-use Rattle.lines.specs.declared.asked.Line.{Line}
-use Rattle.lines.specs.declared.asked.Line.the-variants.{Blank, Frame, Write, Bad}
+use Rattle.answers.specs.declared.asked.BadLine.{BadLine}
+use Rattle.answers.specs.declared.asked.Line.{Line}
+use Rattle.answers.specs.declared.asked.Line.the-variants.{Blank, Frame, Write, Bad}
 
 -- a command begins with a 'w', which is no hexadecimal digit
 abbrev pub command : List ℕ → Bool

@@ -17,10 +17,10 @@ use Rattle.frames.specs.declared.uplink.RoutingUpdate.{RoutingUpdate}
 use Rattle.frames.specs.declared.uplink.RoutingUpdate.the-variants as routing
 use Rattle.frames.specs.declared.uplink.Uplink.{Uplink}
 use Rattle.frames.specs.declared.uplink.Uplink.the-variants as uplink
-use Rattle.lines.specs.declared.asked.BadLine.{BadLine}
-use Rattle.lines.specs.declared.asked.BadLine.the-variants.{BadValue, NoImsi}
-use Rattle.lines.specs.declared.asked.Name.{Name}
-use Rattle.lines.specs.declared.asked.Name.the-variants as name
+use Rattle.answers.specs.declared.asked.BadLine.{BadLine}
+use Rattle.answers.specs.declared.asked.BadLine.the-variants.{BadValue, NoImsi}
+use Rattle.answers.specs.declared.asked.Name.{Name}
+use Rattle.answers.specs.declared.asked.Name.the-variants as name
 use Rattle.lines.specs.declared.fields.Fields.{Fields}
 use Rattle.lines.specs.declared.fields.Kind.{Kind}
 use Rattle.lines.specs.declared.fields.Kind.the-variants as kind

@@ -9,8 +9,8 @@ use Rattle.std.specs.declared.option.Option.{Option}
 use Rattle.std.specs.declared.option.Option.the-variants.{Some, None}
 use Rattle.std.specs.declared.result.Result.{Result}
 use Rattle.std.specs.declared.result.Result.the-variants.{Ok, Err}
-use Rattle.lines.specs.declared.asked.BadLine.{BadLine}
-use Rattle.lines.specs.declared.asked.BadLine.the-variants.{OddDigits, NotHexadecimal}
+use Rattle.answers.specs.declared.asked.BadLine.{BadLine}
+use Rattle.answers.specs.declared.asked.BadLine.the-variants.{OddDigits, NotHexadecimal}
 use Rattle.lines.specs.declared.spelling.Step.{Step}
 use Rattle.lines.specs.declared.spelling.Step.the-variants.{Space, High, Octet, Comment, Bad}
 

@@ -17,7 +17,7 @@ use Rattle.vocabulary.specs.declared.values.Signature.{Signature}
 use Rattle.vocabulary.specs.declared.values.Tmsi.{Tmsi}
 use Rattle.frames.specs.Decoded as decoded
 use Rattle.lines.specs.Spelling.{spelled}
-use Rattle.lines.specs.declared.asked.BadLine.{BadLine}
+use Rattle.answers.specs.declared.asked.BadLine.{BadLine}
 
 -- the octets that a text spells; no octets where it spells none
 abbrev pub octets-or-none : List ℕ → List ℕ

@@ -8,9 +8,9 @@ use Rattle.std.specs.declared.option.Option.{Option}
 use Rattle.std.specs.declared.option.Option.the-variants.{Some, None}
 use Rattle.std.specs.declared.result.Result.{Result}
 use Rattle.std.specs.declared.result.Result.the-variants.{Ok, Err}
-use Rattle.lines.specs.declared.asked.BadLine.the-variants.{BadValue, RepeatedField}
-use Rattle.lines.specs.declared.asked.Name.{Name}
-use Rattle.lines.specs.declared.asked.Name.the-variants as name
+use Rattle.answers.specs.declared.asked.BadLine.the-variants.{BadValue, RepeatedField}
+use Rattle.answers.specs.declared.asked.Name.{Name}
+use Rattle.answers.specs.declared.asked.Name.the-variants as name
 use Rattle.lines.specs.declared.commands.Failed.{Failed}
 use Rattle.lines.specs.declared.commands.Failed.the-variants as failed
 use Rattle.lines.specs.declared.fields.Kind.{Kind}

@@ -6,7 +6,7 @@ ghost use Rattle.std.specs.Of.Vec.{vec-items};
 ghost use Rattle.std.specs.Vec.{made};
 ghost use Rattle.std.specs.declared.option.Option.the-variants.{None};
 ghost use Rattle.lines.specs.Spelling.{digit-of, small, taken, small-after, ended, octets-in, spelled};
-use crate::BadLine;
+use answers::BadLine;
 use std::alloc::AllocError;
 use std::alloc::Global;
 

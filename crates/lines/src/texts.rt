@@ -6,10 +6,10 @@ ghost use Rattle.std.specs.Vec.{made};
 ghost use Rattle.std.specs.declared.option.Option.the-variants.{None};
 ghost use Rattle.lines.specs.Spelling.{octets-in, spelled};
 ghost use Rattle.lines.specs.Asked.{Asks, command};
-use crate::BadLine;
-use crate::Line;
 use crate::commands::message_in;
 use crate::spelling::spelled;
+use answers::BadLine;
+use answers::Line;
 use std::alloc::AllocError;
 use std::alloc::Global;
 

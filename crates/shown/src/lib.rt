@@ -1,13 +1,13 @@
 // Answers as they are shown: one line each.
 mod values;
 
+use answers::Answer;
+use answers::BadLine;
+use answers::Name;
+use answers::Octets;
 use frames::Downlink;
 use frames::PacketAccept;
 use frames::Uplink;
-use lines::Answer;
-use lines::BadLine;
-use lines::Name;
-use lines::Octets;
 use std::fmt;
 use values::show_cause;
 use values::show_circuit;

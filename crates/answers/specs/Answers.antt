@@ -11,10 +11,10 @@ use Rattle.frames.specs.Faults.{refusal-of}
 use Rattle.frames.specs.declared.downlink.Downlink.{Downlink}
 use Rattle.frames.specs.declared.uplink.Uplink.{Uplink}
 use Rattle.frames.specs.declared.faults.FrameFault.{FrameFault}
-use Rattle.lines.specs.declared.answers.Answer.{Answer}
-use Rattle.lines.specs.declared.answers.Answer.the-variants.{Nothing, Read, Refused, Written, Bad}
-use Rattle.lines.specs.declared.asked.Line.{Line}
-use Rattle.lines.specs.declared.asked.Line.the-variants as line
+use Rattle.answers.specs.declared.answers.Answer.{Answer}
+use Rattle.answers.specs.declared.answers.Answer.the-variants.{Nothing, Read, Refused, Written, Bad}
+use Rattle.answers.specs.declared.asked.Line.{Line}
+use Rattle.answers.specs.declared.asked.Line.the-variants as line
 
 -- a frame: what its octets mean, or why they are refused
 abbrev pub frame-answer : List ℕ → Answer

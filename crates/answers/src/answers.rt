@@ -1,6 +1,6 @@
 // What is answered to a line.
 ghost use mathlib.Core.Path.{_≡_};
-ghost use Rattle.lines.specs.Answers.{frame-answer, message-answer, answer-to};
+ghost use Rattle.answers.specs.Answers.{frame-answer, message-answer, answer-to};
 use crate::BadLine;
 use crate::Line;
 use frames::Downlink;

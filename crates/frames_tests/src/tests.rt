@@ -1,4 +1,4 @@
-// A few of the edges as tests; the many are the input of the program.
+// A few of the edges; the many are the input of the program `edges`.
 use frames::Downlink;
 use frames::FrameFault;
 use frames::MobileIdentity;
