@@ -10,11 +10,11 @@ use Rattle.std.specs.declared.option.Option.{Option}
 use Rattle.std.specs.declared.option.Option.the-variants.{Some, None}
 use Rattle.std.specs.declared.result.Result.the-variants.{Ok, Err}
 use Rattle.vocabulary.specs.Places.{lai-octets, rai-octets}
-use Rattle.vocabulary.specs.declared.values.Imsi.{Imsi}
+use Rattle.identities.specs.declared.values.Imsi.{Imsi}
 use Rattle.vocabulary.specs.declared.values.Lai.{Lai}
 use Rattle.vocabulary.specs.declared.values.Rai.{Rai}
-use Rattle.vocabulary.specs.declared.values.Signature.{Signature}
-use Rattle.vocabulary.specs.declared.values.Tmsi.{Tmsi}
+use Rattle.identities.specs.declared.values.Signature.{Signature}
+use Rattle.identities.specs.declared.values.Tmsi.{Tmsi}
 use Rattle.frames.specs.Octets.{octets-of, identity-octets, sent-p-tmsi, signature-element, attach-signature}
 use Rattle.frames.specs.Written.{answered}
 use Rattle.frames.specs.declared.terminal.Terminal.{Terminal}

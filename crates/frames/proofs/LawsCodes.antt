@@ -10,11 +10,11 @@ use Rattle.std.proofs.shelf.Lists.{take-all}
 use Rattle.std.proofs.shelf.Tests.{eqb-true, and-parts}
 use Rattle.std.specs.declared.option.Option.{Option}
 use Rattle.std.specs.declared.option.Option.the-variants.{Some, None}
-use Rattle.vocabulary.specs.Identities.{four-octets, three-octets, tmsi-when, tmsi-of, signature-when, signature-of}
-use Rattle.vocabulary.specs.Marks.{lawful-tmsi, lawful-signature}
+use Rattle.identities.specs.Identities.{four-octets, three-octets, tmsi-when, tmsi-of, signature-when, signature-of}
+use Rattle.identities.specs.Marks.{lawful-tmsi, lawful-signature}
 use Rattle.vocabulary.specs.Timers.{gprs-seconds}
-use Rattle.vocabulary.specs.declared.values.Signature.{Signature}
-use Rattle.vocabulary.specs.declared.values.Tmsi.{Tmsi}
+use Rattle.identities.specs.declared.values.Signature.{Signature}
+use Rattle.identities.specs.declared.values.Tmsi.{Tmsi}
 use Rattle.frames.specs.LawsValues.{CodesTmsi, CodesSignature, CodesTimer}
 use Rattle.frames.specs.Values.{coded-tmsi, tmsi-value, signature-value, timer-value}
 use Rattle.frames.proofs.LawsAreas.{from, take-from, never, when-some}

@@ -9,9 +9,9 @@ use lib.ListN.{length, take, drop, getD}
 use Rattle.std.proofs.shelf.Tests.{cond-both, cond-true, cond-false, ltb-true, leb-true, eqb-true, eq-eqb, ne-eqb, and-parts}
 use Rattle.std.specs.Options.{mapped}
 use Rattle.std.specs.declared.option.Option.the-variants.{Some}
-use Rattle.vocabulary.specs.Identities.{imsi-when, imsi-type, imsi-octets, places-of, digits-in, imsi-of}
-use Rattle.vocabulary.specs.Marks.{lawful-imsi}
-use Rattle.vocabulary.specs.declared.values.Imsi.{Imsi}
+use Rattle.identities.specs.Identities.{imsi-when, imsi-type, imsi-octets, places-of, digits-in, imsi-of}
+use Rattle.identities.specs.Marks.{lawful-imsi}
+use Rattle.identities.specs.declared.values.Imsi.{Imsi}
 use Rattle.frames.specs.LawsValues.{CodesIdentity}
 use Rattle.frames.specs.Values.{coded-tmsi, tmsi-value, identity-value}
 use Rattle.frames.specs.declared.downlink.MobileIdentity.{MobileIdentity}

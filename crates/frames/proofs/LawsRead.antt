@@ -20,8 +20,8 @@ use Rattle.std.specs.declared.result.Result.the-variants.{Ok, Err}
 use Rattle.vocabulary.specs.Timers.{gprs-seconds}
 use Rattle.vocabulary.specs.declared.values.Lai.{Lai}
 use Rattle.vocabulary.specs.declared.values.Rai.{Rai}
-use Rattle.vocabulary.specs.declared.values.Signature.{Signature}
-use Rattle.vocabulary.specs.declared.values.Tmsi.{Tmsi}
+use Rattle.identities.specs.declared.values.Signature.{Signature}
+use Rattle.identities.specs.declared.values.Tmsi.{Tmsi}
 use Rattle.frames.specs.Causes.{cause-of}
 use Rattle.frames.specs.Decoded.{area-in, lai-in, onward, framed, packet-accept, attach-accepted, attach-accept, attach-rejected, attach-reject, detach-accepted, detach-accept, update-accepted, update-accept, update-rejected, update-reject, location-accepted, location-accept, location-rejected, location-reject, begins, by-kind, decoded}
 use Rattle.frames.specs.Elements.{nothing, walk, judged, packet-elements, circuit-elements}

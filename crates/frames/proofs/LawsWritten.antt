@@ -9,13 +9,13 @@ use Rattle.std.proofs.shelf.Ways.{tells}
 use Rattle.std.specs.declared.option.Option.{Option}
 use Rattle.std.specs.declared.option.Option.the-variants.{Some, None}
 use Rattle.vocabulary.specs.Places.{rai-octets, lai-octets}
-use Rattle.vocabulary.specs.Identities.{imsi-octets}
-use Rattle.vocabulary.specs.declared.values.Imsi.{Imsi}
-use Rattle.vocabulary.specs.declared.values.KeyNumber.{KeyNumber}
+use Rattle.identities.specs.Identities.{imsi-octets}
+use Rattle.identities.specs.declared.values.Imsi.{Imsi}
+use Rattle.identities.specs.declared.values.KeyNumber.{KeyNumber}
 use Rattle.vocabulary.specs.declared.values.Lai.{Lai}
 use Rattle.vocabulary.specs.declared.values.Rai.{Rai}
-use Rattle.vocabulary.specs.declared.values.Signature.{Signature}
-use Rattle.vocabulary.specs.declared.values.Tmsi.{Tmsi}
+use Rattle.identities.specs.declared.values.Signature.{Signature}
+use Rattle.identities.specs.declared.values.Tmsi.{Tmsi}
 use Rattle.frames.specs.Laws.{message-kind, identity-length, signature-length, attach-identity-length, layout-length}
 use Rattle.frames.specs.Octets.{octets-of, identity-octets, sent-p-tmsi, signature-element, attach-signature}
 use Rattle.frames.specs.declared.terminal.Terminal.{Terminal}

@@ -8,14 +8,14 @@ use Rattle.std.specs.declared.option.Option.{Option}
 use Rattle.std.specs.declared.option.Option.the-variants.{Some, None}
 use Rattle.std.specs.declared.result.Result.{Result}
 use Rattle.std.specs.declared.result.Result.the-variants.{Ok}
-use Rattle.vocabulary.specs.Identities.{imsi-from, imsi-octets}
+use Rattle.identities.specs.Identities.{imsi-from, imsi-octets}
 use Rattle.vocabulary.specs.Places.{plmn-of}
 use Rattle.vocabulary.specs.Timers.{gprs-seconds}
-use Rattle.vocabulary.specs.declared.values.Imsi.{Imsi}
+use Rattle.identities.specs.declared.values.Imsi.{Imsi}
 use Rattle.vocabulary.specs.declared.values.Lai.{Lai}
 use Rattle.vocabulary.specs.declared.values.Plmn.{Plmn}
 use Rattle.vocabulary.specs.declared.values.Rai.{Rai}
-use Rattle.vocabulary.specs.declared.values.Tmsi.{Tmsi}
+use Rattle.identities.specs.declared.values.Tmsi.{Tmsi}
 use Rattle.frames.specs.Decoded.{decoded}
 use Rattle.frames.specs.Octets.{octets-of}
 use Rattle.frames.specs.declared.downlink.Downlink.the-variants.{AttachAccept}

@@ -8,12 +8,12 @@ use Rattle.std.specs.shelf.Lists.{All}
 use Rattle.std.specs.declared.option.Option.{Option}
 use Rattle.std.specs.declared.option.Option.the-variants.{Some, None}
 use Rattle.vocabulary.specs.Places.{lai-octets, rai-octets}
-use Rattle.vocabulary.specs.declared.values.Imsi.{Imsi}
+use Rattle.identities.specs.declared.values.Imsi.{Imsi}
 use Rattle.vocabulary.specs.declared.values.Lai.{Lai}
 use Rattle.vocabulary.specs.declared.values.Plmn.{Plmn}
 use Rattle.vocabulary.specs.declared.values.Rai.{Rai}
-use Rattle.vocabulary.specs.declared.values.Signature.{Signature}
-use Rattle.vocabulary.specs.declared.values.Tmsi.{Tmsi}
+use Rattle.identities.specs.declared.values.Signature.{Signature}
+use Rattle.identities.specs.declared.values.Tmsi.{Tmsi}
 use Rattle.frames.specs.LawsValues.{CodesSignature, CodesTmsi, CodesTimer, CodesPlmns, CodesIdentity}
 use Rattle.frames.specs.declared.downlink.CircuitElements.{CircuitElements}
 use Rattle.frames.specs.declared.downlink.Downlink.{Downlink}

@@ -5,12 +5,12 @@ use Prim.Native.Nat.{ℕ, _+_, _-_, _/_, _≤_}
 use lib.ListN.{length, take, drop, replicate}
 use Rattle.std.specs.shelf.Lists.{joined}
 use Rattle.std.specs.declared.option.Option.the-variants.{Some, None}
-use Rattle.vocabulary.specs.Identities.{tmsi-octets, signature-octets, imsi-octets}
+use Rattle.identities.specs.Identities.{tmsi-octets, signature-octets, imsi-octets}
 use Rattle.vocabulary.specs.Places.{plmn-octets}
 use Rattle.vocabulary.specs.Timers.{gprs-seconds}
 use Rattle.vocabulary.specs.declared.values.Plmn.{Plmn}
-use Rattle.vocabulary.specs.declared.values.Signature.{Signature}
-use Rattle.vocabulary.specs.declared.values.Tmsi.{Tmsi}
+use Rattle.identities.specs.declared.values.Signature.{Signature}
+use Rattle.identities.specs.declared.values.Tmsi.{Tmsi}
 use Rattle.frames.specs.declared.downlink.MobileIdentity.{MobileIdentity}
 use Rattle.frames.specs.declared.downlink.MobileIdentity.the-variants as identity
 use Rattle.frames.specs.declared.downlink.PlmnList.{PlmnList}

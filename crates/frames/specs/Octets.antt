@@ -6,12 +6,12 @@ use lib.ListN.{getD, take}
 use Rattle.std.specs.declared.option.Option.{Option}
 use Rattle.std.specs.declared.option.Option.the-variants.{Some, None}
 use Rattle.vocabulary.specs.Places.{lai-octets, rai-octets}
-use Rattle.vocabulary.specs.Identities.{tmsi-octets, signature-octets, key-written, imsi-octets}
-use Rattle.vocabulary.specs.declared.values.Imsi.{Imsi}
-use Rattle.vocabulary.specs.declared.values.KeyNumber.{KeyNumber}
+use Rattle.identities.specs.Identities.{tmsi-octets, signature-octets, key-written, imsi-octets}
+use Rattle.identities.specs.declared.values.Imsi.{Imsi}
+use Rattle.identities.specs.declared.values.KeyNumber.{KeyNumber}
 use Rattle.vocabulary.specs.declared.values.Rai.{Rai}
-use Rattle.vocabulary.specs.declared.values.Signature.{Signature}
-use Rattle.vocabulary.specs.declared.values.Tmsi.{Tmsi}
+use Rattle.identities.specs.declared.values.Signature.{Signature}
+use Rattle.identities.specs.declared.values.Tmsi.{Tmsi}
 use Rattle.frames.specs.declared.terminal.Terminal.{Terminal}
 use Rattle.frames.specs.declared.uplink.CircuitStored.{CircuitStored}
 use Rattle.frames.specs.declared.uplink.DetachType.{DetachType}

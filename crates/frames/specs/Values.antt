@@ -9,11 +9,11 @@ use Rattle.std.specs.declared.option.Option.{Option}
 use Rattle.std.specs.declared.option.Option.the-variants.{Some, None}
 use Rattle.vocabulary.specs.Made.{then}
 use Rattle.vocabulary.specs.Places.{plmn-of}
-use Rattle.vocabulary.specs.Identities.{tmsi-of, signature-of, imsi-of}
+use Rattle.identities.specs.Identities.{tmsi-of, signature-of, imsi-of}
 use Rattle.vocabulary.specs.Timers.{gprs-seconds}
 use Rattle.vocabulary.specs.declared.values.Plmn.{Plmn}
-use Rattle.vocabulary.specs.declared.values.Tmsi.{Tmsi}
-use Rattle.vocabulary.specs.declared.values.Signature.{Signature}
+use Rattle.identities.specs.declared.values.Tmsi.{Tmsi}
+use Rattle.identities.specs.declared.values.Signature.{Signature}
 use Rattle.frames.specs.declared.downlink.MobileIdentity.{MobileIdentity}
 use Rattle.frames.specs.declared.downlink.MobileIdentity.the-variants as identity
 use Rattle.frames.specs.declared.downlink.PlmnList.{PlmnList}

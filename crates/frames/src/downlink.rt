@@ -1,10 +1,10 @@
 // What the network sends.
-use vocabulary::Imsi;
+use identities::Imsi;
+use identities::Signature;
+use identities::Tmsi;
 use vocabulary::Lai;
 use vocabulary::Plmn;
 use vocabulary::Rai;
-use vocabulary::Signature;
-use vocabulary::Tmsi;
 
 // Why the network rejects a registration. The names are those of TS 24.008; the numbers stand in specs/Causes.
 #[derive(Clone, Copy)]

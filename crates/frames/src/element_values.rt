@@ -5,10 +5,10 @@ ghost use lib.ListN.{length};
 ghost use Rattle.frames.specs.Values.{tmsi-value, identity-value, signature-value, timer-value, entry, plmns-value};
 use crate::MobileIdentity;
 use crate::PlmnList;
-use vocabulary::Imsi;
+use identities::Imsi;
+use identities::Signature;
+use identities::Tmsi;
 use vocabulary::Plmn;
-use vocabulary::Signature;
-use vocabulary::Tmsi;
 use vocabulary::gprs_seconds;
 
 pub(crate) fn tmsi_value(value: &[u8]) -> Option<Tmsi>

@@ -1,8 +1,8 @@
 // What the walk over the elements has found so far.
 use crate::MobileIdentity;
 use crate::PlmnList;
-use vocabulary::Signature;
-use vocabulary::Tmsi;
+use identities::Signature;
+use identities::Tmsi;
 
 #[derive(Clone, Copy)]
 pub(crate) struct Found {

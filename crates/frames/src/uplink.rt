@@ -1,11 +1,11 @@
 // What the modem sends.
 use crate::Terminal;
-use vocabulary::Imsi;
-use vocabulary::KeyNumber;
+use identities::Imsi;
+use identities::KeyNumber;
+use identities::Signature;
+use identities::Tmsi;
 use vocabulary::Lai;
 use vocabulary::Rai;
-use vocabulary::Signature;
-use vocabulary::Tmsi;
 
 // What is stored for the packet side, as far as a request carries it.
 #[derive(Clone, Copy)]

@@ -19,12 +19,12 @@ use crate::Terminal;
 use crate::Uplink;
 use crate::WriteFault;
 use crate::draft::Draft;
-use vocabulary::Imsi;
-use vocabulary::KeyNumber;
+use identities::Imsi;
+use identities::KeyNumber;
+use identities::Signature;
+use identities::Tmsi;
 use vocabulary::Lai;
 use vocabulary::Rai;
-use vocabulary::Signature;
-use vocabulary::Tmsi;
 
 // A P-TMSI goes into a message only if the routing area is stored that it belongs to.
 fn sent_p_tmsi(stored: &PacketStored) -> Option<Tmsi>

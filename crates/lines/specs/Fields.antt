@@ -5,7 +5,7 @@ use Rattle.std.specs.declared.option.Option.{Option}
 use Rattle.std.specs.declared.option.Option.the-variants.{Some, None}
 use Rattle.std.specs.declared.result.Result.{Result}
 use Rattle.std.specs.declared.result.Result.the-variants.{Ok, Err}
-use Rattle.vocabulary.specs.declared.values.Imsi.{Imsi}
+use Rattle.identities.specs.declared.values.Imsi.{Imsi}
 use Rattle.frames.specs.declared.terminal.Terminal.{Terminal}
 use Rattle.frames.specs.declared.uplink.CircuitStored.{CircuitStored}
 use Rattle.frames.specs.declared.uplink.DetachType.{DetachType}

@@ -8,13 +8,13 @@ use Rattle.std.specs.declared.option.Option.{Option}
 use Rattle.std.specs.declared.option.Option.the-variants.{Some, None}
 use Rattle.std.specs.declared.result.Result.{Result}
 use Rattle.std.specs.declared.result.Result.the-variants.{Ok, Err}
-use Rattle.vocabulary.specs.Identities.{tmsi-of, signature-of, key-when, imsi-from}
-use Rattle.vocabulary.specs.declared.values.Imsi.{Imsi}
-use Rattle.vocabulary.specs.declared.values.KeyNumber.{KeyNumber}
+use Rattle.identities.specs.Identities.{tmsi-of, signature-of, key-when, imsi-from}
+use Rattle.identities.specs.declared.values.Imsi.{Imsi}
+use Rattle.identities.specs.declared.values.KeyNumber.{KeyNumber}
 use Rattle.vocabulary.specs.declared.values.Lai.{Lai}
 use Rattle.vocabulary.specs.declared.values.Rai.{Rai}
-use Rattle.vocabulary.specs.declared.values.Signature.{Signature}
-use Rattle.vocabulary.specs.declared.values.Tmsi.{Tmsi}
+use Rattle.identities.specs.declared.values.Signature.{Signature}
+use Rattle.identities.specs.declared.values.Tmsi.{Tmsi}
 use Rattle.frames.specs.Decoded as decoded
 use Rattle.lines.specs.Spelling.{spelled}
 use Rattle.answers.specs.declared.asked.BadLine.{BadLine}

@@ -23,9 +23,9 @@ use crate::values::word_in;
 use answers::BadLine;
 use answers::Name;
 use frames::Uplink;
+use identities::Imsi;
 use std::alloc::AllocError;
 use std::alloc::Global;
-use vocabulary::Imsi;
 
 // Why a line gives no message: it is bad, or memory is short.
 #[derive(Clone, Copy)]

@@ -14,12 +14,12 @@ use frames::PacketStored;
 use frames::RoutingUpdate;
 use frames::Terminal;
 use frames::Uplink;
-use vocabulary::Imsi;
-use vocabulary::KeyNumber;
+use identities::Imsi;
+use identities::KeyNumber;
+use identities::Signature;
+use identities::Tmsi;
 use vocabulary::Lai;
 use vocabulary::Rai;
-use vocabulary::Signature;
-use vocabulary::Tmsi;
 
 #[derive(Clone, Copy)]
 pub(crate) enum Kind {

@@ -6,14 +6,14 @@ ghost use Rattle.lines.specs.Values.{tmsi-in, signature-in, rai-in, lai-in, oc
 ghost use Rattle.lines.specs.Words.{Word, type-word};
 use crate::fields::TypeWord;
 use crate::spelling::spelled;
+use identities::Imsi;
+use identities::KeyNumber;
+use identities::Signature;
+use identities::Tmsi;
 use std::alloc::AllocError;
 use std::alloc::Global;
-use vocabulary::Imsi;
-use vocabulary::KeyNumber;
 use vocabulary::Lai;
 use vocabulary::Rai;
-use vocabulary::Signature;
-use vocabulary::Tmsi;
 
 // The octets that a value spells, or no octets.
 pub(crate) fn octets_or_none(heap: Global, text: &[u8]) -> Result<Vec<u8>, AllocError>

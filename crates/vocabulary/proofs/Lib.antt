@@ -1,3 +1,2 @@
-pub mod Makes
-pub mod Halves
 pub mod Back
+pub mod Makes

@@ -1,5 +1,4 @@
-pub mod Marks
 pub mod Made
+pub mod Marks
 pub mod Places
-pub mod Identities
 pub mod Timers

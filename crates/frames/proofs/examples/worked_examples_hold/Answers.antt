@@ -1,5 +1,5 @@
 use mathlib.Core.Path.{refl}
-use Rattle.vocabulary.specs.Identities.{imsi-when, tmsi-when}
+use Rattle.identities.specs.Identities.{imsi-when, tmsi-when}
 use Rattle.vocabulary.specs.Places.{plmn-when, lai-when}
 use Rattle.frames.specs.Elements.{walk}
 use Rattle.frames.proofs.examples.worked_examples_hold.Needs as need

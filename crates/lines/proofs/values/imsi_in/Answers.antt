@@ -4,7 +4,7 @@ use Prim.Native.Nat.{ℕ, _+_}
 use lib.ListN.{drop}
 use Rattle.std.proofs.shelf.Lists.{at-drop-more, at-drop-all}
 use Rattle.std.specs.Of.Vec.{vec-items}
-use Rattle.vocabulary.specs.Identities.{imsi-from}
+use Rattle.identities.specs.Identities.{imsi-from}
 use Rattle.lines.specs.Values.{digit-value}
 use Rattle.lines.proofs.values.imsi_in.Needs as need
 

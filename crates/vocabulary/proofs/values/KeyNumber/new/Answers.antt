@@ -1,9 +1,0 @@
-use mathlib.Core.Path.{sym}
-use Rattle.vocabulary.proofs.Makes.{key-made, key-refused}
-use Rattle.vocabulary.proofs.values.KeyNumber.new.Needs as need
-
-pub returns-then-lawful-key : need.returns-then-lawful-key
-returns-then-lawful-key c = record { value = key-made _ }
-
-pub returns-else-lawful-key : need.returns-else-lawful-key
-returns-else-lawful-key c = record { value = key-refused _ (sym (c .if-lawful-key .ensures tt)) }
