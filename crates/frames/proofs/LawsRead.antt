@@ -23,7 +23,7 @@ use Rattle.vocabulary.specs.declared.values.Rai.{Rai}
 use Rattle.identities.specs.declared.values.Signature.{Signature}
 use Rattle.identities.specs.declared.values.Tmsi.{Tmsi}
 use Rattle.frames.specs.Causes.{cause-of}
-use Rattle.frames.specs.Decoded.{area-in, lai-in, onward, framed, packet-accept, attach-accepted, attach-accept, attach-rejected, attach-reject, detach-accepted, detach-accept, update-accepted, update-accept, update-rejected, update-reject, location-accepted, location-accept, location-rejected, location-reject, begins, by-kind, decoded}
+use Rattle.frames.specs.Decoded.{accepted, area-in, lai-in, onward, framed, packet-accept, attach-accepted, attach-accept, attach-rejected, attach-reject, detach-accepted, detach-accept, update-accepted, update-accept, update-rejected, update-reject, location-accepted, location-accept, location-rejected, location-reject, begins, by-kind, decoded}
 use Rattle.frames.specs.Elements.{nothing, walk, judged, packet-elements, circuit-elements}
 use Rattle.frames.specs.Laws.{NoMarks, NoMarkArea, NoMarkTmsi, NoMarkSignature, NoMarkIdentity, NoMarksPacket, AreaStands, Elements, PacketValues, CircuitValues, ValuesStand, Obeys, frame-kind, fixed-octets, side-of}
 use Rattle.frames.specs.declared.downlink.Downlink.{Downlink}
@@ -95,11 +95,16 @@ framed-made side n xs next P then =
     (λ fits. onward-made (walk side nothing (n + 1) (between n (length xs) xs) 0) next P
     (λ f e. then f (ltb-false _ _ fits) (subst (λ ys. walk side nothing (n + 1) ys 0 ≡ Ok f) (take-rest xs n) e)))
 
-accept-made : (accept : PacketAccept → Downlink) (timer at : ℕ) (area : Option Rai) (f : Found) (P : Downlink → Type 0)
-    → ((a : PacketAccept) → area ≡ Some (a .rai) → packet-elements f ≡ Ok (a .elements) → P (accept a)) → made (packet-accept accept timer at area f) P
-accept-made accept timer at None f P then = tt
-accept-made accept timer at (Some rai) f P then =
-    onward-made (packet-elements f) (λ es. Ok (accept (record { t3312 = gprs-seconds timer; rai = rai; elements = es }))) P
+accepted-made : (frame : PacketAccept → Downlink) (r : Result PacketElements ElementFault) (accept : PacketElements → PacketAccept) (P : Downlink → Type 0)
+    → ((es : PacketElements) → r ≡ Ok es → P (frame (accept es))) → made (accepted frame (onward r (λ es. Ok (accept es)))) P
+accepted-made frame (Err e) accept P then = tt
+accepted-made frame (Ok es) accept P then = then es refl
+
+accept-made : (frame : PacketAccept → Downlink) (timer at : ℕ) (area : Option Rai) (f : Found) (P : Downlink → Type 0)
+    → ((a : PacketAccept) → area ≡ Some (a .rai) → packet-elements f ≡ Ok (a .elements) → P (frame a)) → made (accepted frame (packet-accept timer at area f)) P
+accept-made frame timer at None f P then = tt
+accept-made frame timer at (Some rai) f P then =
+    accepted-made frame (packet-elements f) (λ es. record { t3312 = gprs-seconds timer; rai = rai; elements = es }) P
     (λ es right. then (record { t3312 = gprs-seconds timer; rai = rai; elements = es }) refl right)
 
 location-made : (area : Option Lai) (f : Found) (P : Downlink → Type 0)

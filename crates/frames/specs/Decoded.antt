@@ -42,10 +42,15 @@ abbrev pub framed : {Y : Type 0} → Side → ℕ → List ℕ → (Found → Re
 framed side n xs next =
     cond (ltb (length xs) n) (Err (Cut (length xs + 1))) (onward (walk side nothing (n + 1) (between n (length xs) xs) 0) next)
 
--- an accept of the packet side, from its timer octet and its area at an octet
-abbrev pub packet-accept : (PacketAccept → Downlink) → ℕ → ℕ → Option Rai → Found → Result Downlink FrameFault
-packet-accept accept timer at area f =
-    field at area (λ rai. onward (packet-elements f) (λ es. Ok (accept (record { t3312 = gprs-seconds timer; rai = rai; elements = es }))))
+-- what an accept of the packet side says, from its timer octet and its area at an octet
+abbrev pub packet-accept : ℕ → ℕ → Option Rai → Found → Result PacketAccept FrameFault
+packet-accept timer at area f =
+    field at area (λ rai. onward (packet-elements f) (λ es. Ok (record { t3312 = gprs-seconds timer; rai = rai; elements = es })))
+
+-- an accept as the frame that it came in
+abbrev pub accepted : (PacketAccept → Downlink) → Result PacketAccept FrameFault → Result Downlink FrameFault
+accepted frame (Ok accept) = Ok (frame accept)
+accepted frame (Err fault) = Err fault
 
 -- the area that stands in octets
 abbrev pub area-in : List ℕ → Option Rai
@@ -63,14 +68,14 @@ area-updated = 0
 
 -- attach accept: the result in the low half of octet 3; T3312; one octet; the routing area
 abbrev pub attach-accepted : ℕ → ℕ → Option Rai → Found → Result Downlink FrameFault
-attach-accepted result timer area f = cond (eqb (result % 16) gprs-attached) (packet-accept AttachAccept timer 6 area f) (Err (BadValue 3))
+attach-accepted result timer area f = cond (eqb (result % 16) gprs-attached) (accepted AttachAccept (packet-accept timer 6 area f)) (Err (BadValue 3))
 
 abbrev pub attach-accept : List ℕ → Result Downlink FrameFault
 attach-accept xs = framed Packet 11 xs (attach-accepted (getD xs 2 0) (getD xs 3 0) (rai-of (getD xs 5 0) (getD xs 6 0) (getD xs 7 0) (getD xs 8 0) (getD xs 9 0) (getD xs 10 0)))
 
 -- routing area update accept: the result in the high half of octet 3; T3312; the routing area
 abbrev pub update-accepted : ℕ → ℕ → Option Rai → Found → Result Downlink FrameFault
-update-accepted result timer area f = cond (eqb (result / 16) area-updated) (packet-accept UpdateAccept timer 5 area f) (Err (BadValue 3))
+update-accepted result timer area f = cond (eqb (result / 16) area-updated) (accepted UpdateAccept (packet-accept timer 5 area f)) (Err (BadValue 3))
 
 abbrev pub update-accept : List ℕ → Result Downlink FrameFault
 update-accept xs = framed Packet 10 xs (update-accepted (getD xs 2 0) (getD xs 3 0) (rai-of (getD xs 4 0) (getD xs 5 0) (getD xs 6 0) (getD xs 7 0) (getD xs 8 0) (getD xs 9 0)))

@@ -3,7 +3,7 @@ ghost use mathlib.Core.Path.{_≡_};
 ghost use Prim.Native.Nat.{_≤_};
 ghost use lib.ListN.{length};
 ghost use Rattle.frames.specs.Causes.{cause-of, cause-number};
-ghost use Rattle.frames.specs.Decoded.{area-in, lai-in, attach-accepted, attach-accept, attach-rejected, attach-reject, detach-accepted, detach-accept, update-accepted, update-accept, update-rejected, update-reject, location-accepted, location-accept, location-rejected, location-reject, decoded};
+ghost use Rattle.frames.specs.Decoded.{area-in, lai-in, packet-accept, attach-accepted, attach-accept, attach-rejected, attach-reject, detach-accepted, detach-accept, update-accepted, update-accept, update-rejected, update-reject, location-accepted, location-accept, location-rejected, location-reject, decoded};
 ghost use Rattle.frames.specs.Laws.{WrongLength, Obeys};
 ghost use Rattle.frames.specs.declared.faults.FrameFault.the-variants.{Length};
 ghost use Rattle.std.specs.Vec.{made};
@@ -41,6 +41,26 @@ fn cause_of(octet: u8) -> Cause
     }
 }
 
+// What an accept of the packet side says, with its area at an octet.
+fn packet_accept(
+    found: Found,
+    timer: u8,
+    area: [u8; 6],
+    at: usize,
+) -> Result<PacketAccept, FrameFault>
+    ensures value { λ r. ⌜ r ≡ packet-accept timer at (area-in area) found ⌝ }
+{
+    let Some(rai) = Rai::from_octets(area) else {
+        return Err(FrameFault::BadValue(at));
+    };
+    let elements = found.packet()?;
+    Ok(PacketAccept {
+        t3312: gprs_seconds(timer),
+        rai,
+        elements,
+    })
+}
+
 // The values of an attach accept: the result stands in the low half of its octet.
 fn attach_accepted(
     found: Found,
@@ -53,15 +73,8 @@ fn attach_accepted(
     let 1 = result % 16 else {
         return Err(FrameFault::BadValue(3));
     };
-    let Some(rai) = Rai::from_octets(area) else {
-        return Err(FrameFault::BadValue(6));
-    };
-    let elements = found.packet()?;
-    Ok(Downlink::AttachAccept(PacketAccept {
-        t3312: gprs_seconds(timer),
-        rai,
-        elements,
-    }))
+    let accept = packet_accept(found, timer, area, 6)?;
+    Ok(Downlink::AttachAccept(accept))
 }
 
 fn attach_accept(frame: &[u8]) -> Result<Downlink, FrameFault>
@@ -87,15 +100,8 @@ fn update_accepted(
     let 0 = result / 16 else {
         return Err(FrameFault::BadValue(3));
     };
-    let Some(rai) = Rai::from_octets(area) else {
-        return Err(FrameFault::BadValue(5));
-    };
-    let elements = found.packet()?;
-    Ok(Downlink::UpdateAccept(PacketAccept {
-        t3312: gprs_seconds(timer),
-        rai,
-        elements,
-    }))
+    let accept = packet_accept(found, timer, area, 5)?;
+    Ok(Downlink::UpdateAccept(accept))
 }
 
 fn update_accept(frame: &[u8]) -> Result<Downlink, FrameFault>
