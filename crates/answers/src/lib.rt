@@ -1,4 +1,6 @@
 // What a line may ask for, and what is answered to it.
+#![tactic(auto)]
+
 mod answers;
 mod asked;
 

@@ -1,4 +1,6 @@
 // The card: what it holds, and how one that comes from outside is checked.
+#![tactic(auto)]
+
 mod checking;
 mod fields;
 mod statuses;

@@ -1,4 +1,6 @@
 // The card as an image of 48 octets.
+#![tactic(auto)]
+
 mod examples;
 mod layout;
 mod reading;

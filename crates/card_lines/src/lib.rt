@@ -1,4 +1,6 @@
 // What a line of text asks of card stores.
+#![tactic(auto)]
+
 mod commands;
 mod faults;
 mod items;

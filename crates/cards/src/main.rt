@@ -1,4 +1,6 @@
 // A card's day in two stores: each line of input is a step or a question, and both stores answer it.
+#![tactic(auto)]
+
 mod reasons;
 mod texts;
 

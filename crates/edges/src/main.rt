@@ -1,4 +1,6 @@
 // The edges of the codec: an answer for each line, and after `cut` for each frame that ends sooner.
+#![tactic(auto)]
+
 use answers::{Answer, Line, answer_to, frame_answer};
 use lines::line_in;
 use shown::Shown;

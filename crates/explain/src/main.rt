@@ -1,4 +1,6 @@
 // Explains frames of the network and writes messages of the modem: a line of output for each line of input that is not blank.
+#![tactic(auto)]
+
 use answers::{Answer, answer_to};
 use lines::line_in;
 use shown::Shown;

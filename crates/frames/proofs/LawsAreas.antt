@@ -1,9 +1,7 @@
 -- An area that is read out of octets is written as the same octets.
-use Rattle.std.proofs.Common.{◌≡◌, ℕ, zero, suc, ◌+◌, ◌*◌, ◌/◌, ◌%◌, ◌<◌, ◌≤◌, Bool, true, false, eqb, List, [], ◌∷◌, ◌++◌, length, get_or, take, drop, Some, None, Option, sym, refl, ap, ◌∙◌, arith}
+use Rattle.std.proofs.Common.{◌≡◌, ℕ, zero, suc, ◌+◌, ◌*◌, ◌/◌, ◌%◌, ◌<◌, ◌≤◌, eqb, List, [], ◌∷◌, ◌++◌, length, get_or, take, drop, Some, None, sym, refl, ap, ◌∙◌, arith}
 use Rattle.std.proofs.lemmas.List.{drop_more}
 use Rattle.std.proofs.lemmas.Bool.{cond_both, eqb-true}
-use Rattle.std.specs.Option.{option_map}
-use Rattle.vocabulary.specs.Made.{when, then}
 use Rattle.vocabulary.specs.Marks.{lawful_plmn, lawful_lac}
 use Rattle.vocabulary.specs.Places.{third_half, third_of, plmn_octets, lai_octets, rai_octets, plmn_when, lai_when, plmn_of, lai_of, rai_of}
 use Rattle.vocabulary.specs.declared.values.Lai.{Lai}

@@ -1,9 +1,8 @@
 -- The walk over the elements, an element at a time.
-use Rattle.std.proofs.Common.{◌≡◌, ℕ, zero, suc, ◌+◌, ◌<◌, ◌≤◌, ltb, List, [], ◌∷◌, length, get_or, drop, Ok, Err, Result, sym, refl, ap, ◌∙◌, add-zero, arith}
+use Rattle.std.proofs.Common.{◌≡◌, ℕ, zero, suc, ◌+◌, ◌<◌, ◌≤◌, ltb, List, [], ◌∷◌, length, get_or, drop, Ok, Err, sym, refl, ap, ◌∙◌, add-zero, arith}
 use Rattle.std.proofs.lemmas.Bool.{cond-true, cond-false, lt-ltb, le-ltb}
 use Rattle.frames.specs.Elements.{walk, noted}
 use Rattle.frames.specs.Tags.{layout_of, end, value_in, meaning}
-use Rattle.frames.specs.declared.faults.ElementFault.{ElementFault}
 use Rattle.frames.specs.declared.faults.ElementFault.TheVariants.{Cut}
 use Rattle.frames.specs.declared.found.Found.{Found}
 use Rattle.frames.specs.declared.tags.Side.{Side}

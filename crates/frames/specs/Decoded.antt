@@ -1,5 +1,5 @@
 -- What a frame of the network means, or why it is refused: for every string of octets.
-use Rattle.std.specs.Prelude.{ℕ, ◌+◌, ◌/◌, ◌%◌, Bool, cond, ◌&&◌, List, [], ◌∷◌, length, Some, None, Ok, Err, Option, Result, ◌==◌, nat_lt, slice_index}
+use Rattle.std.specs.Prelude.{ℕ, ◌+◌, ◌/◌, ◌%◌, Bool, cond, ◌&&◌, List, length, Some, None, Ok, Err, Option, Result, ◌==◌, nat_lt, slice_index}
 use Rattle.std.specs.List.{between}
 use Rattle.vocabulary.specs.Places.{rai_of, lai_of}
 use Rattle.vocabulary.specs.Timers.{gprs_seconds}
@@ -10,8 +10,6 @@ use Rattle.frames.specs.Elements.{nothing, walk, packet_elements, circuit_elemen
 use Rattle.frames.specs.declared.downlink.Downlink.{Downlink}
 use Rattle.frames.specs.declared.downlink.Downlink.TheVariants.{AttachAccept, AttachReject, DetachAccept, UpdateAccept, UpdateReject, LocationAccept, LocationReject}
 use Rattle.frames.specs.declared.downlink.PacketAccept.{PacketAccept}
-use Rattle.frames.specs.declared.downlink.PacketElements.{PacketElements}
-use Rattle.frames.specs.declared.downlink.CircuitElements.{CircuitElements}
 use Rattle.frames.specs.declared.faults.ElementFault.{ElementFault}
 use Rattle.frames.specs.declared.faults.FrameFault.{FrameFault}
 use Rattle.frames.specs.declared.faults.FrameFault.TheVariants.{Length, UnknownFrame, Cut, BadValue, Element}

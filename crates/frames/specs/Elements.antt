@@ -1,5 +1,5 @@
 -- The elements after the fixed octets, taken one after the other.
-use Rattle.std.specs.Prelude.{ℕ, zero, suc, ◌+◌, Bool, cond, ◌||◌, List, [], ◌∷◌, length, is_some, Some, None, Ok, Err, Option, Result, nat_lt}
+use Rattle.std.specs.Prelude.{ℕ, zero, suc, ◌+◌, cond, ◌||◌, List, [], ◌∷◌, length, is_some, Some, None, Ok, Err, Option, Result, nat_lt}
 use Rattle.std.specs.Option.{option_or}
 use Rattle.frames.specs.Tags.{layout_of, end, value_in, meaning}
 use Rattle.frames.specs.Values.{tmsi_value, identity_value, signature_value, timer_value, plmns_value}

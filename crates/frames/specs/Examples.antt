@@ -1,18 +1,16 @@
 -- Worked examples, each from the definitions alone.
-use Rattle.std.specs.Prelude.{◌≡◌, ℕ, List, [], ◌∷◌, ◌++◌, replicate, Some, None, Ok, Option, Result, refl}
+use Rattle.std.specs.Prelude.{◌≡◌, ℕ, List, [], ◌∷◌, ◌++◌, replicate, Some, None, Ok, refl}
 use Rattle.std.specs.Option.{option_map}
 use Rattle.identities.specs.Identities.{imsi_from, imsi_octets}
 use Rattle.vocabulary.specs.Places.{plmn_of}
 use Rattle.vocabulary.specs.Timers.{gprs_seconds}
 use Rattle.identities.specs.declared.values.Imsi.{Imsi}
-use Rattle.vocabulary.specs.declared.values.Lai.{Lai}
 use Rattle.vocabulary.specs.declared.values.Plmn.{Plmn}
 use Rattle.vocabulary.specs.declared.values.Rai.{Rai}
 use Rattle.identities.specs.declared.values.Tmsi.{Tmsi}
 use Rattle.frames.specs.Decoded.{decoded}
 use Rattle.frames.specs.Octets.{octets_of}
 use Rattle.frames.specs.declared.downlink.Downlink.TheVariants.{AttachAccept}
-use Rattle.frames.specs.declared.terminal.Terminal.{Terminal}
 use Rattle.frames.specs.declared.uplink.LocationUpdate.TheVariants.{Normal}
 use Rattle.frames.specs.declared.uplink.Uplink.{Uplink}
 use Rattle.frames.specs.declared.uplink.Uplink.TheVariants.{LocationRequest}

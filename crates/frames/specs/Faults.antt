@@ -2,7 +2,6 @@
 use Rattle.std.specs.Prelude.{ℕ}
 use Rattle.vocabulary.specs.declared.refusals.Refusal.{Refusal}
 use Rattle.vocabulary.specs.declared.refusals.Layer.TheVariants.{Frame}
-use Rattle.frames.specs.declared.faults.ElementFault.{ElementFault}
 use Rattle.frames.specs.declared.faults.ElementFault.TheVariants as element
 use Rattle.frames.specs.declared.faults.FrameFault.{FrameFault}
 use Rattle.frames.specs.declared.faults.FrameFault.TheVariants.{Length, UnknownFrame, Cut, BadValue, Element}

@@ -6,7 +6,6 @@ use Rattle.vocabulary.specs.Timers.{gprs_seconds}
 use Rattle.identities.specs.declared.values.Imsi.{Imsi}
 use Rattle.identities.specs.declared.values.KeyNumber.{KeyNumber}
 use Rattle.identities.specs.declared.values.Signature.{Signature}
-use Rattle.identities.specs.declared.values.Tmsi.{Tmsi}
 use Rattle.vocabulary.specs.declared.values.Lai.{Lai}
 use Rattle.vocabulary.specs.declared.values.Plmn.{Plmn}
 use Rattle.vocabulary.specs.declared.values.Rai.{Rai}

@@ -1,5 +1,5 @@
 -- The octets of every message that the modem sends.
-use Rattle.std.specs.Prelude.{ℕ, ◌+◌, ◌*◌, cond, List, [], ◌∷◌, ◌++◌, take, Some, None, Option, slice_index}
+use Rattle.std.specs.Prelude.{ℕ, ◌+◌, ◌*◌, List, [], ◌∷◌, ◌++◌, take, Some, None, Option, slice_index}
 use Rattle.vocabulary.specs.Places.{lai_octets, rai_octets}
 use Rattle.identities.specs.Identities.{tmsi_octets, signature_octets, key_written, imsi_octets}
 use Rattle.identities.specs.declared.values.Imsi.{Imsi}
@@ -8,7 +8,6 @@ use Rattle.vocabulary.specs.declared.values.Rai.{Rai}
 use Rattle.identities.specs.declared.values.Signature.{Signature}
 use Rattle.identities.specs.declared.values.Tmsi.{Tmsi}
 use Rattle.frames.specs.declared.terminal.Terminal.{Terminal}
-use Rattle.frames.specs.declared.uplink.CircuitStored.{CircuitStored}
 use Rattle.frames.specs.declared.uplink.DetachType.{DetachType}
 use Rattle.frames.specs.declared.uplink.DetachType.TheVariants as detach
 use Rattle.frames.specs.declared.uplink.LocationUpdate.{LocationUpdate}

@@ -1,5 +1,5 @@
 -- How an element is laid out after its tag, and which elements are known.
-use Rattle.std.specs.Prelude.{ℕ, ◌+◌, ◌-◌, Bool, cond, ◌||◌, List, [], ◌∷◌, take, drop, ◌==◌, nat_le, nat_lt, slice_index}
+use Rattle.std.specs.Prelude.{ℕ, ◌+◌, ◌-◌, cond, ◌||◌, List, take, drop, ◌==◌, nat_le, nat_lt, slice_index}
 use Rattle.frames.specs.declared.tags.Side.{Side}
 use Rattle.frames.specs.declared.tags.Side.TheVariants.{Packet, Circuit}
 use Rattle.frames.specs.declared.tags.Layout.{Layout}

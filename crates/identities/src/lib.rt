@@ -1,4 +1,6 @@
 // Who a subscriber is on the air interface: IMSI, TMSI and P-TMSI, P-TMSI signature, and the number of the ciphering key.
+#![tactic(auto)]
+
 mod identities;
 mod values;
 

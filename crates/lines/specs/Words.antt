@@ -20,9 +20,9 @@ kind_word kind.Update = codes "update"
 kind_word kind.Location = codes "location"
 kind_word kind.Detach = codes "detach"
 kind_word kind.Indication = codes "indication"
-kind_word kind.AttachComplete = codes "attach_complete"
-kind_word kind.UpdateComplete = codes "update_complete"
-kind_word kind.TmsiComplete = codes "tmsi_complete"
+kind_word kind.AttachComplete = codes "attach-complete"
+kind_word kind.UpdateComplete = codes "update-complete"
+kind_word kind.TmsiComplete = codes "tmsi-complete"
 
 abbrev pub name_word : Name → List ℕ
 name_word name.Imsi = codes "imsi"
@@ -40,9 +40,9 @@ name_word name.Radio = codes "radio"
 abbrev pub type_word : TypeWord → List ℕ
 type_word word.Normal = codes "normal"
 type_word word.Periodic = codes "periodic"
-type_word word.ImsiAttach = codes "imsi_attach"
+type_word word.ImsiAttach = codes "imsi-attach"
 type_word word.Gprs = codes "gprs"
-type_word word.SwitchOff = codes "switch_off"
+type_word word.SwitchOff = codes "switch-off"
 
 -- a field takes a lawful value, once
 abbrev pub putting : {X : Type 0} → Option X → Option X → Name → Result Unit Failed

@@ -1,4 +1,6 @@
 // What a line of text asks for: a frame in hexadecimal, or a message given by its fields.
+#![tactic(auto)]
+
 mod commands;
 mod fields;
 mod spelling;

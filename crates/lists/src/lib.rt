@@ -1,4 +1,6 @@
 // The lists that network selection reads: the bars and the equivalent networks.
+#![tactic(auto)]
+
 mod area_bars;
 mod bars;
 mod equivalents;

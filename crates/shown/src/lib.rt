@@ -1,4 +1,6 @@
 // Answers as they are shown: one line each.
+#![tactic(auto)]
+
 mod values;
 
 use answers::{Answer, BadLine, Name, Octets};

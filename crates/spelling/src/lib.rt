@@ -1,4 +1,6 @@
 // What a text spells: octets in hexadecimal, and decimal digits.
+#![tactic(auto)]
+
 mod digits;
 mod octets;
 

@@ -1,4 +1,6 @@
 // Where a card is kept: the interface of a store, the plain store, the store over an image, and what is done with any.
+#![tactic(auto)]
+
 mod copying;
 mod faults;
 mod image;

@@ -1,7 +1,7 @@
 -- The tests on places decide whether they are equal.
-use Rattle.std.proofs.Common.{◌≡◌, ℕ, Bool, true, false, ◌&&◌, eqb, Some, None, Decides, Option, sym, refl, ap, ◌∙◌}
+use Rattle.std.proofs.Common.{◌≡◌, ℕ, eqb, Some, None, Decides, Option, sym, refl, ap, ◌∙◌}
 use Rattle.std.specs.Cmp.{IsEquivalence, decided}
-use Rattle.std.proofs.lemmas.Bool.Decides.{Decides-eqb, Decides-and, Decides-at, Decides-like}
+use Rattle.std.proofs.lemmas.Bool.Decides.{Decides-eqb, Decides-and, Decides-like}
 use Rattle.std.proofs.lemmas.Bool.{false≢true}
 use Rattle.vocabulary.specs.Places.{plmn_when, lai_when}
 use Rattle.vocabulary.specs.Same.{same_third, same_plmn, same_lai}
@@ -26,7 +26,6 @@ third_decides (Some m) None = (λ e. absurd (false≢true e), λ e. cc)
 third_decides (Some m) (Some n) = Decides-like (eqb m n) (ap Some) (some_same m n) (Decides-eqb m n)
 
 pub plmn_decides : (p q : Plmn) → Decides (same_plmn p q) (p ≡ q)
-unfolding same_plmn
 plmn_decides p q =
     Decides-like (same_plmn p q)
     (λ e. same_digits p q (e.0, e.1.0, e.1.1.0, e.1.1.1.0, e.1.1.1.1.0, e.1.1.1.1.1))
@@ -43,15 +42,8 @@ lai_decides a b =
     (Decides-and (same_plmn a.plmn b.plmn) _ (plmn_decides a.plmn b.plmn) (Decides-eqb a.lac b.lac))
 
 -- the tests are lawful equalities
-abbrev pub plmn_equality : IsEquivalence (λ (p q : Plmn) (r : Bool). Decides r (p ≡ q))
+abbrev pub plmn_equality : IsEquivalence same_plmn
 plmn_equality = decided same_plmn plmn_decides
 
-abbrev pub lai_equality : IsEquivalence (λ (a b : Lai) (r : Bool). Decides r (a ≡ b))
+abbrev pub lai_equality : IsEquivalence same_lai
 lai_equality = decided same_lai lai_decides
-
--- what the code tests is whether they are equal
-pub told_plmn : (p q : Plmn) {r : Bool} → r ≡ same_plmn p q → Decides r (p ≡ q)
-told_plmn p q {r} e = Decides-at r (same_plmn p q) e (plmn_decides p q)
-
-pub told_lai : (a b : Lai) {r : Bool} → r ≡ same_lai a b → Decides r (a ≡ b)
-told_lai a b {r} e = Decides-at r (same_lai a b) e (lai_decides a b)

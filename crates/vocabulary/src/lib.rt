@@ -1,4 +1,6 @@
 // The words that frames, lists, cards and engine share: places, timers, and how a refusal is told.
+#![tactic(auto)]
+
 mod places;
 mod refusals;
 mod same;

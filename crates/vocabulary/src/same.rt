@@ -1,8 +1,7 @@
 // When two places are the same.
-ghost use Rattle.std.specs.Prelude.{◌≡◌, Decides};
-ghost use Rattle.vocabulary.specs.Same.{same_third, same_plmn, same_lai};
+ghost use Rattle.std.specs.Prelude.{◌≡◌};
 ghost use Rattle.std.specs.Cmp.Rules.{comparing};
-ghost use Rattle.std.proofs.Common.{rules, arith};
+ghost use Rattle.vocabulary.specs.Same.{same_third, same_plmn, same_lai};
 
 use crate::{Lai, Plmn};
 
@@ -35,9 +34,9 @@ fn same_lai(one: Lai, other: Lai) -> bool
 }
 
 impl PartialEq for Plmn {
-    ghost equals = { λ p q r. Decides r (p ≡ q) };
+    ghost eq = { same_plmn };
 
-    ghost laws = { first_of (Prim.search (comparing, rules), Prim.grind (arith, Self.row.coded.inj)) };
+    ghost laws = { Prim.search comparing depth 12 };
 
     fn eq(&self, other: &Plmn) -> bool {
         same_plmn(*self, *other)
@@ -45,9 +44,9 @@ impl PartialEq for Plmn {
 }
 
 impl PartialEq for Lai {
-    ghost equals = { λ a b r. Decides r (a ≡ b) };
+    ghost eq = { same_lai };
 
-    ghost laws = { first_of (Prim.search (comparing, rules), Prim.grind (arith, Self.row.coded.inj)) };
+    ghost laws = { Prim.search comparing depth 12 };
 
     fn eq(&self, other: &Lai) -> bool {
         same_lai(*self, *other)

@@ -9,20 +9,20 @@ pub loop-octets-init : goal.loop-octets-init
 unfolding forbidden_from
 loop-octets-init c = ap (λ ps. more_from ps c.args.given.now) c.empty-list.ensures.value
 
-pub returns-in-err-list : goal.returns-in-err-list
-returns-in-err-list c =
+pub returns-in_err-list : goal.returns-in_err-list
+returns-in_err-list c =
     let os = c.args.given.now in
     record {
-      value = ap (option_map plmns) c.from-residual.ensures
+      value = ap (option_map plmns) c.from_residual.ensures
           ∙ turn (plmns c.loop-octets.list) os c.loop-octets.octets-index (forbidden_from os) None c.loop-octets-test.true
-          c.in-err-list.ensures.value c.loop-octets.invariant;
+          c.in_err-list.ensures.value c.loop-octets.invariant;
     }
 
 pub loop-octets-preserved : goal.loop-octets-preserved
 loop-octets-preserved c =
     let os = c.args.given.now in
-    turn (plmns c.loop-octets.list) os c.loop-octets.octets-index (forbidden_from os) (Some (plmns c.in-ok-list.list))
-    c.loop-octets-test.true c.in-ok-list.ensures.value c.loop-octets.invariant
+    turn (plmns c.loop-octets.list) os c.loop-octets.octets-index (forbidden_from os) (Some (plmns c.in_ok-list.list))
+    c.loop-octets-test.true c.in_ok-list.ensures.value c.loop-octets.invariant
 
 pub returns : goal.returns
 returns c =

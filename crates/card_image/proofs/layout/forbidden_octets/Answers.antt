@@ -5,7 +5,7 @@ use Rattle.card_image.proofs.layout.forbidden_octets.Goals as goal
 pub returns : goal.returns
 returns c = record {
   value = four_places c.entries-list.result.now (plmns c.args.forbidden.now)
-      c.place_octets.result c.place-octets-2.result c.place-octets-3.result c.place-octets-4.result
-      c.entries-list.ensures.value c.place_octets.ensures.value c.place-octets-2.ensures.value
-      c.place-octets-3.ensures.value c.place-octets-4.ensures.value;
+      c.place_octets.result c.place_octets-2.result c.place_octets-3.result c.place_octets-4.result
+      c.entries-list.ensures.value c.place_octets.ensures.value c.place_octets-2.ensures.value
+      c.place_octets-3.ensures.value c.place_octets-4.ensures.value;
 }

@@ -11,6 +11,6 @@ returns c =
       value = (λ k. get_or (identity k) 0 0 ∷ get_or (identity k) 1 0 ∷ get_or (identity k) 2 0 ∷ get_or (identity k) 3 0
           ∷ get_or (signature k) 0 0 ∷ get_or (signature k) 1 0 ∷ get_or (signature k) 2 0
           ∷ get_or (area k) 0 0 ∷ get_or (area k) 1 0 ∷ get_or (area k) 2 0 ∷ get_or (area k) 3 0 ∷ get_or (area k) 4 0 ∷ get_or (area k) 5 0
-          ∷ c.status-written-n.ensures k ∷ [])
+          ∷ c.status_written-n.ensures k ∷ [])
           ∙ sym (packet_opened c.args.packet.now);
     }

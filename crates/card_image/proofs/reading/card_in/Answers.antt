@@ -7,7 +7,7 @@ pub returns-in-Some : goal.returns-in-Some
 unfolding contents_in
 returns-in-Some c =
     let xs = c.args.image.now in
-    let value = c.if-written-so.ensures.value ∙ ap (only_written_so xs) c.in-Some.ensures.value in
+    let value = c.if_written_so.ensures.value ∙ ap (only_written_so xs) c.in-Some.ensures.value in
     record { value = value; means = subst (Means xs) (sym value) (meant xs) }
 
 pub returns-in-None : goal.returns-in-None

@@ -7,13 +7,13 @@ pub loop-i-preserved : goal.loop-i-preserved
 loop-i-preserved c =
     let step = at_drop_more (digits_then_filler c.args.len c.loop-i.i) c.args.places.now c.loop-i.i 0 c.loop-i-test.true in
     let rest = digits_then_filler c.args.len (c.loop-i.i + 1) (drop (c.loop-i.i + 1) c.args.places.now) in
-    ap (λ b. b && rest) c.if-not-place-fits.ensures ∙ sym step ∙ c.loop-i.invariant
+    ap (λ b. b && rest) c.if-not-place_fits.ensures ∙ sym step ∙ c.loop-i.invariant
 
-pub returns-then-not-place-fits : goal.returns-then-not-place-fits
-returns-then-not-place-fits c =
+pub returns-then-not-place_fits : goal.returns-then-not-place_fits
+returns-then-not-place_fits c =
     let step = at_drop_more (digits_then_filler c.args.len c.loop-i.i) c.args.places.now c.loop-i.i 0 c.loop-i-test.true in
     let rest = digits_then_filler c.args.len (c.loop-i.i + 1) (drop (c.loop-i.i + 1) c.args.places.now) in
-    ap (λ b. b && rest) c.if-not-place-fits.ensures ∙ sym step ∙ c.loop-i.invariant
+    ap (λ b. b && rest) c.if-not-place_fits.ensures ∙ sym step ∙ c.loop-i.invariant
 
 pub returns : goal.returns
 returns c =

@@ -12,8 +12,8 @@ returns-then-has g c =
 pub returns : goal.returns
 returns g c =
     record {
-      fits = simp length-set (omega (arith, slot_within c.args.count c.make-room-at.result (length c.args.slots.now) c.requires.fits c.requires.room c.make-room-at.ensures.value));
+      fits = simp length-set (omega (arith, slot_within c.args.count c.make_room-at.result (length c.args.slots.now) c.requires.fits c.requires.room c.make_room-at.ensures.value));
       value = λ o.
-          added_in_slot o.same c.args.slots.now c.make-room-at.new.slots c.args.count c.make-room-at.result c.args.x c.requires.fits c.requires.room
-          c.make-room-at.ensures.value c.make-room-at.ensures.after (sym (c.if-has.ensures.value o));
+          added_in_slot o.same c.args.slots.now c.make_room-at.new.slots c.args.count c.make_room-at.result c.args.x c.requires.fits c.requires.room
+          c.make_room-at.ensures.value c.make_room-at.ensures.after (sym (c.if-has.ensures.value o));
     }

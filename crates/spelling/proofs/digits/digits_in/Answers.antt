@@ -10,9 +10,9 @@ loop-character-preserved c =
     let i = c.loop-character.character-index in
     let rest = map digit_value (drop (i + 1) text) in
     let step = at_drop_more (map digit_value) text i 0 c.loop-character-test.true in
-    ap (λ (xs : List ℕ). xs ++ rest) c.in-ok-push.ensures.items
-    ∙ append_assoc done (c.digit-value.result ∷ []) rest
-    ∙ ap (λ (x : ℕ). done ++ (x ∷ rest)) c.digit-value.ensures.value
+    ap (λ (xs : List ℕ). xs ++ rest) c.in_ok-push.ensures.items
+    ∙ append_assoc done (c.digit_value.result ∷ []) rest
+    ∙ ap (λ (x : ℕ). done ++ (x ∷ rest)) c.digit_value.ensures.value
     ∙ ap (λ (xs : List ℕ). done ++ xs) (sym step)
     ∙ c.loop-character.invariant
 

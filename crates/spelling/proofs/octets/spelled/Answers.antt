@@ -2,7 +2,7 @@ use Rattle.std.proofs.Common.{◌+◌, drop, vec_items, ap, ◌∙◌}
 use Rattle.spelling.specs.Octets.{spelled, small}
 use Rattle.spelling.proofs.Spells.{one_more, no_more}
 use Rattle.spelling.proofs.octets.spelled.Goals as goal
-use Rattle.spelling.proofs.octets.spelled.Goals.{in-Space, in-High, in-Octet+in-ok-push}
+use Rattle.spelling.proofs.octets.spelled.Goals.{in-Space, in-High, in-Octet+in_ok-push-in-Octet}
 
 pub returns-in-Comment : goal.returns-in-Comment
 returns-in-Comment c = record {
@@ -35,8 +35,8 @@ loop-character-preserved c =
             ∙ one_more (vec_items done) high text i _ lt w.in-High.ensures.value ∙ c.loop-character.invariant.0,
         ap small w.high-is ∙ w.in-High.ensures.bound,
       )
-      | in-Octet+in-ok-push w ↦
-          let items = ap vec_items w.octets-is ∙ w.in-ok-push.ensures.items in (
+      | in-Octet+in_ok-push-in-Octet w ↦
+          let items = ap vec_items w.octets-is ∙ w.in_ok-push-in-Octet.ensures.items in (
             (λ k. spelled (items k) (w.high-is k) rest)
                 ∙ one_more (vec_items done) high text i _ lt w.in-Octet.ensures.value ∙ c.loop-character.invariant.0,
             ap small w.high-is,

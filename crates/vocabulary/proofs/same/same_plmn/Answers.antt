@@ -1,11 +1,8 @@
 use Rattle.std.proofs.Common.{rules}
-use Rattle.vocabulary.specs.Same.{same_plmn}
 use Rattle.vocabulary.proofs.same.same_plmn.Goals as goal
 
 pub returns-then-one-other-5 : goal.returns-then-one-other-5
-unfolding same_plmn
 returns-then-one-other-5 c = search rules
 
 pub returns-else-one-other-5 : goal.returns-else-one-other-5
-unfolding same_plmn
 returns-else-one-other-5 c = search rules

@@ -4,9 +4,9 @@ use Rattle.frames.proofs.draft.Draft.put.Goals as goal
 
 pub returns : goal.returns
 returns c =
-    let copied = c.copy-from-slice.ensures.after in
+    let copied = c.copy_from_slice.ensures.after in
     record {
-      value = take-put_mid c.args.self.len _ c.args.self.octets c.copy-from-slice.new.self _ (omega (arith, ap length copied)) (omega arith)
+      value = take-put_mid c.args.self.len _ c.args.self.octets c.copy_from_slice.new.self _ (omega (arith, ap length copied)) (omega arith)
           ∙ ap (λ part. take c.args.self.len c.args.self.octets ++ part) copied;
       len = refl;
     }

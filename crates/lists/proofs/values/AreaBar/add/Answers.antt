@@ -4,8 +4,8 @@ use Rattle.vocabulary.proofs.Equalities.{lai_decides, lai_equality}
 use Rattle.lists.proofs.Additions.{adds_in_slots}
 use Rattle.lists.proofs.values.AreaBar.add.Goals as goal
 
-pub invariant-of-self : goal.invariant-of-self
-invariant-of-self c =
+pub invariant_of-self : goal.invariant_of-self
+invariant_of-self c =
     let made =
     adds_in_slots same_lai lai_decides 10 c.args.self.now.slots c.args.self.now.count c.args.area
     c.add-count.new.slots c.add-count.result (omega arith) c.args.self.now.lawful c.add-count.auto.slots

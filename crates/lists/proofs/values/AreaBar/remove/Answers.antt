@@ -3,8 +3,8 @@ use Rattle.vocabulary.proofs.Equalities.{lai_decides, lai_equality}
 use Rattle.lists.proofs.Removals.{removes_in_slots}
 use Rattle.lists.proofs.values.AreaBar.remove.Goals as goal
 
-pub invariant-of-self : goal.invariant-of-self
-invariant-of-self c =
+pub invariant_of-self : goal.invariant_of-self
+invariant_of-self c =
     let made =
     removes_in_slots same_lai lai_decides 10 c.args.self.now.slots c.args.self.now.count c.args.area
     c.remove-count.new.slots c.remove-count.result c.args.self.now.lawful c.remove-count.auto.slots

@@ -5,10 +5,10 @@ use Rattle.lists.proofs.values.Bars.to_circuit.Goals as goal
 pub returns : goal.returns
 returns c =
     let bars = c.args.self.now in
-    let told = c.bars-circuit.ensures.value in
+    let told = c.bars_circuit.ensures.value in
     record {
       value = told;
       law =
           told_circuit (plmns c.args.forbidden.now) (areas bars.regional) (areas bars.roaming) c.args.cell
-          c.bars-circuit.result told;
+          c.bars_circuit.result told;
     }

@@ -5,8 +5,8 @@ use Rattle.lists.proofs.Additions.{adds_in_slots}
 use Rattle.lists.proofs.Equating.{added_with_room, length_followed}
 use Rattle.lists.proofs.values.EquivalentPlmns.append.Goals as goal
 
-pub invariant-of-self : goal.invariant-of-self
-invariant-of-self c =
+pub invariant_of-self : goal.invariant_of-self
+invariant_of-self c =
     let made =
     adds_in_slots same_plmn plmn_decides 6 c.args.self.now.slots c.args.self.now.count c.args.plmn
     c.add-count.new.slots c.add-count.result (omega arith) c.args.self.now.lawful c.add-count.auto.slots

@@ -6,4 +6,4 @@ use Rattle.stores.proofs.image.ImageStore.empty.Goals as goal
 
 pub returns : goal.returns
 unfolding contents_in imsi_when
-returns c = record { value = ap slot_in c.no-card.ensures }
+returns c = record { value = ap slot_in c.no_card.ensures }

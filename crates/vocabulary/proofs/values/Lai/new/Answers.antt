@@ -2,8 +2,8 @@ use Rattle.std.proofs.Common.{sym}
 use Rattle.vocabulary.proofs.Makes.{lai_made, lai_refused}
 use Rattle.vocabulary.proofs.values.Lai.new.Goals as goal
 
-pub returns-then-lawful-lac : goal.returns-then-lawful-lac
-returns-then-lawful-lac c = record { value = lai_made _ }
+pub returns-then-lawful_lac : goal.returns-then-lawful_lac
+returns-then-lawful_lac c = record { value = lai_made _ }
 
-pub returns-else-lawful-lac : goal.returns-else-lawful-lac
-returns-else-lawful-lac c = record { value = lai_refused _ _ (sym c.if-lawful-lac.ensures) }
+pub returns-else-lawful_lac : goal.returns-else-lawful_lac
+returns-else-lawful_lac c = record { value = lai_refused _ _ (sym c.if-lawful_lac.ensures) }

@@ -6,7 +6,7 @@ use Rattle.vocabulary.proofs.values.Lai.octets.Goals as goal
 pub returns-in-Some : goal.returns-in-Some
 returns-in-Some c = record {
   value = search rules;
-  back = ap (λ r. lai_of (get_or r 0 0) (get_or r 1 0) (get_or r 2 0) (get_or r 3 0) (get_or r 4 0)) c.area-octets.ensures
+  back = ap (λ r. lai_of (get_or r 0 0) (get_or r 1 0) (get_or r 2 0) (get_or r 3 0) (get_or r 4 0)) c.area_octets.ensures
       ∙ lai_back c.in-Some.area (omega arith) ∙ sym c.in-Some.is;
 }
 
