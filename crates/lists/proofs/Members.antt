@@ -1,25 +1,17 @@
 -- What the tests on a list tell: that an entry is there, and that none stands twice.
-use Rattle.std.proofs.Common.{◌≡◌, ℕ, zero, suc, ◌<◌, ◌≤◌, Bool, true, false, not, eqb, leb, List, [], ◌∷◌, length, get_or, take, Decides, sym, refl, ◌∙◌, inl, inr, arith}
+use Rattle.std.proofs.Common.{◌≡◌, ℕ, zero, suc, ◌<◌, ◌≤◌, Bool, true, false, not, eqb, leb, List, [], ◌∷◌, length, get_or, take, Decides, sym, refl, ap, ◌||◌, ◌∙◌, inl, inr, arith}
 use Rattle.std.specs.Cmp.{IsEquivalence}
-use Rattle.std.specs.List.{IsAnyAnswer, ContainsAt as Has}
+use Rattle.std.specs.List.{list_any, ContainsAt as Has}
 use Rattle.std.proofs.lemmas.List.{get_or_default}
 use Rattle.std.proofs.lemmas.Bool.{both_ways, not-true, not_from_false, and_parts, and_from, cases_Bool, eqb-true, eq-eqb, leb-true, le-leb}
 use Rattle.std.proofs.lemmas.Bool.Decides.{Decides-by_or, not_from_Decides}
 use Rattle.lists.specs.Lists.{member, distinct, lawful_list}
 use Rattle.lists.specs.Laws.{Once}
 
--- a test that is true only where it decides so is `true` or `false` as the list has the entry
-pub member_from_contains : {X : Type 0} {E : X → X → Bool → Type 0} (o : IsEquivalence E) (xs : List X) (x : X) (r : Bool)
-    → IsAnyAnswer (λ y. E y x) xs r → r ≡ member E x xs
-member_from_contains o xs x true h =
-    sym ((Decides-by_or (λ y. o.same y x) (λ y. o.same y x ≡ true) (member o.same x) (λ y. (λ e. e, λ e. e)) refl (λ _ _. refl) xs).1 (h.0, h.1, λ d. sym (o.says (get_or xs h.0 d) x true (h.2 d))))
-member_from_contains o xs x false h =
-    elim (cases_Bool (member o.same x xs)) [
-      | inl e ↦
-          let w = (Decides-by_or (λ y. o.same y x) (λ y. o.same y x ≡ true) (member o.same x) (λ y. (λ e. e, λ e. e)) refl (λ _ _. refl) xs).0 e in
-          absurd (both_ways _ (sym (o.says (get_or xs w.0 x) x false (h w.0 x (omega arith) w.1))) (w.2 x))
-      | inr e ↦ sym e
-    ]
+-- the answer of `contains` is that of the test
+pub member_from_any : {X : Type 0} (E : X → X → Bool) (x : X) (xs : List X) → list_any (λ y. E y x) xs ≡ member E x xs
+member_from_any E x [] = refl
+member_from_any E x (y ∷ ys) = ap (λ b. E y x || b) (member_from_any E x ys)
 
 -- a lawful list has its bound, and no entry twice
 pub lawful_parts : {X : Type 0} (same : X → X → Bool) (limit : ℕ) (slots : List X) (count : ℕ) → lawful_list same limit slots count ≡ true

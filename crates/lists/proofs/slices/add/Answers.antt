@@ -6,7 +6,7 @@ pub returns-then-has : goal.returns-then-has
 returns-then-has g c =
     record {
       fits = c.requires.fits;
-      value = λ o. sym (added_there o.same (length c.args.slots.now) _ c.args.x (sym (c.if-has.ensures.value o)));
+      value = λ o. sym (added_there g.T.PartialEq.eq (length c.args.slots.now) _ c.args.x (sym (c.if-has.ensures.value o)));
     }
 
 pub returns : goal.returns
@@ -14,6 +14,6 @@ returns g c =
     record {
       fits = simp length-set (omega (arith, slot_within c.args.count c.make_room-at.result (length c.args.slots.now) c.requires.fits c.requires.room c.make_room-at.ensures.value));
       value = λ o.
-          added_in_slot o.same c.args.slots.now c.make_room-at.new.slots c.args.count c.make_room-at.result c.args.x c.requires.fits c.requires.room
+          added_in_slot g.T.PartialEq.eq c.args.slots.now c.make_room-at.new.slots c.args.count c.make_room-at.result c.args.x c.requires.fits c.requires.room
           c.make_room-at.ensures.value c.make_room-at.ensures.after (sym (c.if-has.ensures.value o));
     }

@@ -8,9 +8,9 @@ stays_behind : (same : Bool) (k r i : ℕ) → r ≡ cond same k (k + 1) → k �
 stays_behind true k r i is behind = omega arith
 stays_behind false k r i is behind = omega arith
 
-stays : {X : Type 0} {E : X → X → Bool → Type 0} (o : IsEquivalence E) (xs ys zs : List X) (k i r : ℕ) (y x : X) (same : Bool)
+stays : {X : Type 0} {E : X → X → Bool} (o : IsEquivalence E) (xs ys zs : List X) (k i r : ℕ) (y x : X) (same : Bool)
     → FiltersInPlace (λ z. not (E z x)) xs ys k i → i < length ys → y ≡ get_or ys i y
-    → E y x same → r ≡ cond same k (k + 1) → zs ≡ cond same ys (set ys k y)
+    → same ≡ E y x → r ≡ cond same k (k + 1) → zs ≡ cond same ys (set ys k y)
     → FiltersInPlace (λ z. not (E z x)) xs zs r (i + 1)
 stays o xs ys zs k i r y x true kept within read told end_is list-is =
     rw (list-is, end_is) (FiltersInPlace-more_no kept within (ap not (sym told)) read)

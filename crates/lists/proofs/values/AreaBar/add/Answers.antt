@@ -10,7 +10,7 @@ invariant_of-self c =
     adds_in_slots same_lai lai_decides 10 c.args.self.now.slots c.args.self.now.count c.args.area
     c.add-count.new.slots c.add-count.result (omega arith) c.args.self.now.lawful c.add-count.auto.slots
     c.add-count.ensures.fits (c.add-count.ensures.value lai_equality) in
-    (made.0, tt)
+    record { lawful = made.0 }
 
 pub returns : goal.returns
 returns c =

@@ -9,7 +9,7 @@ invariant_of-self c =
     removes_in_slots same_lai lai_decides 10 c.args.self.now.slots c.args.self.now.count c.args.area
     c.remove-count.new.slots c.remove-count.result c.args.self.now.lawful c.remove-count.auto.slots
     c.remove-count.ensures.fits (c.remove-count.ensures.value lai_equality) in
-    (made.0, tt)
+    record { lawful = made.0 }
 
 pub returns : goal.returns
 returns c =

@@ -9,7 +9,7 @@ invariant_of-self c =
     removes_in_slots same_plmn plmn_decides 4 c.args.self.now.slots c.args.self.now.count c.args.plmn
     c.remove-count.new.slots c.remove-count.result c.args.self.now.lawful c.remove-count.auto.slots
     c.remove-count.ensures.fits (c.remove-count.ensures.value plmn_equality) in
-    (made.0, tt)
+    record { lawful = made.0 }
 
 pub returns : goal.returns
 returns c =
