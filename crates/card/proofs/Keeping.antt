@@ -1,5 +1,5 @@
 -- A card that is made holds what was given.
-use Rattle.std.proofs.Common.{◌≡◌, ℕ, ◌<◌, ◌≤◌, Bool, true, false, cond, ◌&&◌, eqb, ltb, leb, List, [], ◌∷◌, ◌++◌, map, length, get_or, take, drop, replicate, IfOk as made, Some, None, Ok, Err, Option, Result, sym, refl, ap, ◌∙◌, subst, inl, inr, arith}
+use Rattle.std.proofs.Common.{◌≡◌, ℕ, ◌≤◌, Bool, true, false, ◌&&◌, eqb, ltb, leb, List, [], ◌∷◌, ◌++◌, map, length, take, drop, replicate, IfOk as made, Some, None, Ok, Err, Option, Result, sym, refl, ap, ◌∙◌, subst, inl, inr, arith}
 use Rattle.std.specs.Option.{option_map}
 use Rattle.std.proofs.lemmas.List.{take_at}
 use Rattle.std.proofs.lemmas.Bool.{and_parts, cases_Bool, cond-true, cond-false, eqb-true, leb-true, ltb-false}
@@ -19,7 +19,7 @@ use Rattle.identities.specs.declared.values.Tmsi.{Tmsi}
 use Rattle.lists.specs.Laws.{Once}
 use Rattle.lists.specs.Lists.{distinct}
 use Rattle.lists.proofs.Members.{once_from_distinct}
-use Rattle.card.specs.Given.{Given, checked, passed, status_of, part_of, key_of, lai_in, rai_in, record_with, record_from, packet_from, plmns_from, at_most_four, forbidden_from, card_from, made_contents}
+use Rattle.card.specs.Given.{Given, checked, passed, status_of, part_of, key_of, lai_in, rai_in, record_from, packet_from, plmns_from, at_most_four, forbidden_from, card_from, made_contents}
 use Rattle.card.specs.Laws.{plmn_in, KeepsRecord, Keeps}
 use Rattle.card.specs.Numbers.{status_number}
 use Rattle.card.specs.Contents.{Contents, contents}

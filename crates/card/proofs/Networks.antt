@@ -14,7 +14,7 @@ use Rattle.lists.specs.declared.values.PlmnBar.{PlmnBar}
 use Rattle.lists.proofs.Additions.{added_there, added_newest}
 use Rattle.lists.proofs.Fresh.{fresh, added_last}
 use Rattle.lists.proofs.Members.{lawful_parts}
-use Rattle.card.specs.Given.{plmns_from, at_most_four, forbidden_from, one_more}
+use Rattle.card.specs.Given.{plmns_from, at_most_four, one_more}
 
 -- a list that a card may hold
 abbrev pub Fits : List Plmn → Type 0

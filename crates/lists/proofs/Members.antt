@@ -1,9 +1,8 @@
 -- What the tests on a list tell: that an entry is there, and that none stands twice.
-use Rattle.std.proofs.Common.{◌≡◌, ℕ, zero, suc, ◌<◌, ◌≤◌, Bool, true, false, not, eqb, leb, List, [], ◌∷◌, length, get_or, take, Decides, sym, refl, ap, ◌||◌, ◌∙◌, inl, inr, arith}
-use Rattle.std.specs.Cmp.{IsEquivalence}
+use Rattle.std.proofs.Common.{◌≡◌, ℕ, zero, suc, ◌<◌, ◌≤◌, Bool, true, false, not, eqb, leb, List, [], ◌∷◌, length, take, Decides, sym, refl, ap, ◌||◌, ◌∙◌, inl, inr, arith}
 use Rattle.std.specs.List.{list_any, ContainsAt as Has}
 use Rattle.std.proofs.lemmas.List.{get_or_default}
-use Rattle.std.proofs.lemmas.Bool.{both_ways, not-true, not_from_false, and_parts, and_from, cases_Bool, eqb-true, eq-eqb, leb-true, le-leb}
+use Rattle.std.proofs.lemmas.Bool.{not-true, not_from_false, and_parts, and_from, cases_Bool, eqb-true, eq-eqb, leb-true, le-leb}
 use Rattle.std.proofs.lemmas.Bool.Decides.{Decides-by_or, not_from_Decides}
 use Rattle.lists.specs.Lists.{member, distinct, lawful_list}
 use Rattle.lists.specs.Laws.{Once}

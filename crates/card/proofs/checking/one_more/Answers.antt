@@ -1,4 +1,4 @@
-use Rattle.std.proofs.Common.{◌≡◌, ◌<◌, ◌≤◌, length, ap, arith}
+use Rattle.std.proofs.Common.{◌<◌, ◌≤◌, length, ap, arith}
 use Rattle.lists.specs.Entries.{plmns}
 use Rattle.card.proofs.Networks.{one_added, none_added, list_fits}
 use Rattle.card.proofs.checking.one_more.Goals as goal
