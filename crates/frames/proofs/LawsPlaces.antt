@@ -1,7 +1,7 @@
 -- Every network that a message names has decimal digits.
 use Rattle.std.proofs.Common.{◌≡◌, ℕ, true, List, [], ◌∷◌, Some, None, Option}
 use Rattle.std.proofs.lemmas.Bool.{ltb-true, and_parts}
-use Rattle.std.specs.List.{AllByRecursion as All}
+use Rattle.std.specs.List.{AllByRecursion}
 use Rattle.vocabulary.specs.Marks.{third_digit}
 use Rattle.vocabulary.specs.declared.values.Plmn.{Plmn}
 use Rattle.frames.specs.Laws.{ThirdDigit, Decimal, DecimalEntry, DecimalList, DecimalPlaces}
@@ -30,7 +30,7 @@ decimal_entry : (p : Option Plmn) → DecimalEntry p
 decimal_entry None = tt
 decimal_entry (Some p) = decimal p
 
-decimal_entries : (ps : List (Option Plmn)) → All DecimalEntry ps
+decimal_entries : (ps : List (Option Plmn)) → AllByRecursion DecimalEntry ps
 decimal_entries [] = tt
 decimal_entries (p ∷ ps) = (decimal_entry p, decimal_entries ps)
 

@@ -1,6 +1,6 @@
 -- What holds of every frame that is read and of every message that is written, said apart from how either is done.
 use Rattle.std.specs.Prelude.{◌≡◌, ℕ, ◌+◌, ◌/◌, ◌<◌, ◌≤◌, ◌≢◌, ◌⊎◌, List, [], ◌∷◌, ◌++◌, length, take, drop, Some, None, Option}
-use Rattle.std.specs.List.{AllByRecursion as All}
+use Rattle.std.specs.List.{AllByRecursion}
 use Rattle.vocabulary.specs.Places.{lai_octets, rai_octets}
 use Rattle.identities.specs.declared.values.Imsi.{Imsi}
 use Rattle.vocabulary.specs.declared.values.Lai.{Lai}
@@ -168,7 +168,7 @@ DecimalEntry None = Unit {0}
 
 -- each of the equivalent networks
 abbrev pub DecimalList : Option PlmnList → Type 0
-DecimalList (Some l) = All DecimalEntry l.entries
+DecimalList (Some l) = AllByRecursion DecimalEntry l.entries
 DecimalList None = Unit {0}
 
 -- every network that a message names has decimal digits
