@@ -1,5 +1,6 @@
 -- What octets mean is the card that is written as them.
 use Rattle.std.proofs.Common.{◌≡◌, ℕ, true, leb, List, [], length, Some, None, Option, sym, refl, ap, ◌∙◌, subst, inl, inr, arith}
+use Rattle.std.specs.Option.{option_map}
 use Rattle.std.specs.Str.{bytes_eq}
 use Rattle.std.proofs.lemmas.Slice.Eq.{bytes_eq-Decides}
 use Rattle.std.proofs.lemmas.Bool.{and_from, cases_Bool, cond-true, cond-false, le-leb}
@@ -16,8 +17,8 @@ use Rattle.card.specs.declared.values.Card.{Card}
 use Rattle.card.proofs.Networks.{Fits, list_fits}
 use Rattle.card.specs.declared.values.Status.{Status}
 use Rattle.card_image.specs.Layout.{image}
-use Rattle.card_image.specs.Meaning.{imsi_at_front, status_at, packet_in, circuit_in, added_some, forbidden_in, plmn_at, likely, only_written_so, contents_in, lawful_contents, Means}
-use Rattle.card_image.proofs.RoundTrip.{image_read}
+use Rattle.card_image.specs.Meaning.{imsi_at_front, status_at, packet_in, circuit_in, added_some, forbidden_in, plmn_at, likely, only_written_so, contents_in, area_fits, lawful_contents, Means}
+use Rattle.card_image.proofs.RoundTrip.{image_read, areas_fit}
 
 written_some : (xs : List ℕ) (o : Option Contents) (c : Contents) → only_written_so xs o ≡ Some c → (o ≡ Some c) × (image c ≡ xs)
 written_some xs None c e = absurd (never e)
@@ -48,16 +49,19 @@ networks_fit : (xs : List ℕ) → Fits (forbidden_in xs)
 networks_fit xs =
     added_fits _ (plmn_at xs 43) (added_fits _ (plmn_at xs 40) (added_fits _ (plmn_at xs 37) (added_fits [] (plmn_at xs 34) (omega arith, refl))))
 
-found_lawful : (xs : List ℕ) (c : Contents) → contents_in xs ≡ Some c → lawful_contents c ≡ true
-unfolding contents_in
-found_lawful xs c e =
-    let list = likely_networks xs (imsi_at_front xs) (status_at xs 22) (status_at xs 33) c (written_some xs (likely xs) c e).0 in
-    let fits = subst Fits list (networks_fit xs) in
-    and_from (leb (length c.forbidden) 4) _ (le-leb (length c.forbidden) 4 fits.0) fits.1
-
 found_written : (xs : List ℕ) (c : Contents) → contents_in xs ≡ Some c → image c ≡ xs
 unfolding contents_in
 found_written xs c e = (written_some xs (likely xs) c e).1
+
+found_lawful : (xs : List ℕ) (c : Contents) → contents_in xs ≡ Some c → lawful_contents c ≡ true
+unfolding contents_in
+found_lawful xs c e =
+    let found = written_some xs (likely xs) c e in
+    let list = likely_networks xs (imsi_at_front xs) (status_at xs 22) (status_at xs 33) c found.0 in
+    let fits = subst Fits list (networks_fit xs) in
+    and_from _ _
+    (and_from (leb (length c.forbidden) 4) _ (le-leb (length c.forbidden) 4 fits.0) fits.1)
+    (areas_fit c fits.0 fits.1 (ap likely found.1 ∙ found.0))
 
 pub meant : (xs : List ℕ) → Means xs (contents_in xs)
 meant xs =
@@ -71,11 +75,11 @@ meant xs =
 pub one_card : (c d : Contents) → lawful_contents c ≡ true → lawful_contents d ≡ true → image c ≡ image d → c ≡ d
 one_card c d one other e = some_same c d (sym (image_read c one) ∙ ap contents_in e ∙ image_read d other)
 
--- a card is lawful by the list that it holds
-pub card_lawful : (card : Card) → lawful_contents (contents card) ≡ true
-card_lawful card =
+-- a card is lawful by the list that it holds, if its areas fit
+pub card_lawful : (card : Card) → area_fits (option_map (λ a. a.lai) card.packet.base.area) ≡ true → area_fits card.circuit.area ≡ true
+    → lawful_contents (contents card) ≡ true
+card_lawful card packet circuit =
     let fits = list_fits card.forbidden in
-    and_from (leb (length (plmns card.forbidden)) 4) _ (le-leb (length (plmns card.forbidden)) 4 fits.0) fits.1
-
-pub image_meant : (card : Card) → contents_in (image (contents card)) ≡ Some (contents card)
-image_meant card = image_read (contents card) (card_lawful card)
+    and_from _ _
+    (and_from (leb (length (plmns card.forbidden)) 4) _ (le-leb (length (plmns card.forbidden)) 4 fits.0) fits.1)
+    (and_from _ _ packet circuit)

@@ -1,14 +1,18 @@
 -- Each part of an image reads back.
-use Rattle.std.proofs.Common.{◌≡◌, ℕ, zero, suc, ◌+◌, ◌/◌, ◌%◌, ◌≤◌, Bool, true, cond, List, [], ◌∷◌, ◌++◌, length, get_or, Some, None, Option, sym, refl, ap, ◌∙◌, subst, append_assoc, append-nil, arith}
+use Rattle.std.proofs.Common.{◌≡◌, ℕ, zero, suc, ◌+◌, ◌*◌, ◌/◌, ◌%◌, ◌≤◌, true, List, [], ◌∷◌, ◌++◌, length, get_or, nat_lt, Some, None, Option, sym, refl, ap, ◌∙◌, subst, append_assoc, append-nil, arith}
 use Rattle.std.specs.Option.{option_map}
 use Rattle.std.proofs.lemmas.List.{length-append}
-use Rattle.vocabulary.specs.Places.{plmn_when, plmn_of, lai_of, rai_of, lai_octets, rai_octets}
+use Rattle.std.proofs.lemmas.Bool.{ltb-true, lt-ltb}
+use Rattle.vocabulary.specs.Made.{then}
+use Rattle.vocabulary.specs.Marks.{lawful_lac}
+use Rattle.vocabulary.specs.Places.{plmn_when, lai_when, plmn_of, lai_of, rai_of, lai_octets, rai_octets}
 use Rattle.vocabulary.specs.Same.{same_plmn}
 use Rattle.vocabulary.specs.declared.values.Plmn.{Plmn}
 use Rattle.vocabulary.specs.declared.values.Lai.{Lai}
 use Rattle.vocabulary.specs.declared.values.Rai.{Rai}
 use Rattle.vocabulary.proofs.Back.{plmn_back, lai_back, no_lai_back}
 use Rattle.vocabulary.proofs.Equalities.{plmn_decides}
+use Rattle.vocabulary.proofs.Inversions.{when_some, mapped_some}
 use Rattle.identities.specs.Identities.{tmsi_when, tmsi_of, signature_when, signature_of, key_when, key_written}
 use Rattle.identities.specs.declared.values.KeyNumber.{KeyNumber}
 use Rattle.identities.specs.declared.values.Signature.{Signature}
@@ -20,7 +24,7 @@ use Rattle.lists.proofs.Fresh.{fresh, added_last}
 use Rattle.card.specs.declared.values.Status.{Status}
 use Rattle.card.specs.declared.values.Status.TheVariants.{Updated, NotUpdated, NotAllowed}
 use Rattle.card_image.specs.Layout.{status_written, identity_bits, signature_bits, place_octets}
-use Rattle.card_image.specs.Meaning.{status_at, added_some}
+use Rattle.card_image.specs.Meaning.{status_at, added_some, area_fits}
 
 pub identity_again : (t : Option Tmsi)
     → tmsi_of (identity_bits t / 16777216 % 256) (identity_bits t / 65536 % 256) (identity_bits t / 256 % 256) (identity_bits t % 256) ≡ t
@@ -34,15 +38,41 @@ unfolding signature_when
 signature_again None = refl
 signature_again (Some s) = signature_back s
 
-pub lai_again : (a : Option Lai)
-    → lai_of (get_or (lai_octets a) 0 0) (get_or (lai_octets a) 1 0) (get_or (lai_octets a) 2 0) (get_or (lai_octets a) 3 0) (get_or (lai_octets a) 4 0) ≡ a
-lai_again None = no_lai_back
-lai_again (Some a) = lai_back a
+-- what the octets of an area read as
+abbrev pub lai_read : Option Lai → Option Lai
+lai_read a =
+    lai_of (get_or (lai_octets a) 0 0) (get_or (lai_octets a) 1 0) (get_or (lai_octets a) 2 0) (get_or (lai_octets a) 3 0) (get_or (lai_octets a) 4 0)
 
-pub rai_again : (a : Option Rai)
-    → rai_of (get_or (rai_octets a) 0 0) (get_or (rai_octets a) 1 0) (get_or (rai_octets a) 2 0) (get_or (rai_octets a) 3 0) (get_or (rai_octets a) 4 0) (get_or (rai_octets a) 5 0) ≡ a
-rai_again None = ap (option_map (λ area. record { lai = area; rac = 0xff })) no_lai_back
-rai_again (Some a) = ap (option_map (λ area. record { lai = area; rac = a.rac })) (lai_back a.lai)
+abbrev pub rai_read : Option Rai → Option Rai
+rai_read a =
+    rai_of (get_or (rai_octets a) 0 0) (get_or (rai_octets a) 1 0) (get_or (rai_octets a) 2 0) (get_or (rai_octets a) 3 0) (get_or (rai_octets a) 4 0) (get_or (rai_octets a) 5 0)
+
+pub lai_again : (a : Option Lai) → area_fits a ≡ true → lai_read a ≡ a
+lai_again None fits = no_lai_back
+lai_again (Some a) fits = lai_back a (ltb-true a.lac 65536 fits)
+
+pub rai_again : (a : Option Rai) → area_fits (option_map (λ r. r.lai) a) ≡ true → rai_read a ≡ a
+rai_again None fits = ap (option_map (λ area. record { lai = area; rac = 0xff })) no_lai_back
+rai_again (Some a) fits = ap (option_map (λ area. record { lai = area; rac = a.rac })) (lai_back a.lai (ltb-true a.lai.lac 65536 fits))
+
+-- the code that an area is read with has two octets
+code_fits : (p : Plmn) (a : Lai) → lai_when p (a.lac / 256 % 256 * 256 + a.lac % 256) ≡ Some a → nat_lt a.lac 65536 ≡ true
+unfolding lai_when
+code_fits p a e =
+    let same = (when_some (lawful_lac (a.lac / 256 % 256 * 256 + a.lac % 256)) (λ lawful. record { plmn = p; lac = a.lac / 256 % 256 * 256 + a.lac % 256; lawful = lawful }) a e).1 in
+    let code : a.lac / 256 % 256 * 256 + a.lac % 256 ≡ a.lac = ap (λ x. x.lac) same in
+    lt-ltb a.lac 65536 (omega (arith, code))
+
+pub fits_from_lai : (a : Option Lai) → lai_read a ≡ a → area_fits a ≡ true
+fits_from_lai None e = refl
+fits_from_lai (Some a) e =
+    code_fits a.plmn a (sym (ap (λ p. then p (λ q. lai_when q (a.lac / 256 % 256 * 256 + a.lac % 256))) (plmn_back a.plmn)) ∙ e)
+
+pub fits_from_rai : (a : Option Rai) → rai_read a ≡ a → area_fits (option_map (λ r. r.lai) a) ≡ true
+fits_from_rai None e = refl
+fits_from_rai (Some a) e =
+    let found = mapped_some (λ (area : Lai). record { lai = area; rac = a.rac }) (lai_read (Some a.lai)) a e in
+    fits_from_lai (Some a.lai) (found.1 ∙ ap (λ r. Some r.lai) found.2)
 
 pub status_again : (s : Status) → status_at (status_written s ∷ []) 0 ≡ Some s
 status_again Updated = refl

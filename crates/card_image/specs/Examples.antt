@@ -1,16 +1,11 @@
 -- Worked examples of the image, each from the definitions alone.
-use Rattle.std.specs.Prelude.{◌≡◌, ℕ, List, [], ◌∷◌, ◌++◌, map, Some, None, Option, refl}
+use Rattle.std.specs.Prelude.{◌≡◌, ℕ, List, [], ◌∷◌, ◌++◌, map, Some, None, refl}
 use Rattle.vocabulary.specs.declared.values.Lai.{Lai}
 use Rattle.vocabulary.specs.declared.values.Plmn.{Plmn}
-use Rattle.vocabulary.specs.declared.values.Rai.{Rai}
-use Rattle.identities.specs.declared.values.Imsi.{Imsi}
-use Rattle.identities.specs.declared.values.KeyNumber.{KeyNumber}
-use Rattle.identities.specs.declared.values.Signature.{Signature}
-use Rattle.identities.specs.declared.values.Tmsi.{Tmsi}
 use Rattle.card.specs.Numbers.{status_number}
 use Rattle.card.specs.Contents.{Contents}
 use Rattle.card.specs.declared.values.Status.TheVariants.{Updated, NotUpdated, NotAllowed}
-use Rattle.card_image.specs.Layout.{status_written, image}
+use Rattle.card_image.specs.Layout.{image}
 use Rattle.card_image.specs.Meaning.{contents_in}
 
 -- MCC 001, MNC 01; MCC 310, MNC 41

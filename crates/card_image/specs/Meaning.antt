@@ -1,5 +1,5 @@
 -- What 48 octets mean: the card that is written as them, or none.
-use Rattle.std.specs.Prelude.{◌≡◌, ℕ, ◌+◌, Bool, true, cond, ◌&&◌, List, [], length, take, drop, Some, None, Option, ◌==◌, nat_le, slice_index}
+use Rattle.std.specs.Prelude.{◌≡◌, ℕ, ◌+◌, Bool, true, cond, ◌&&◌, List, [], length, take, drop, Some, None, Option, ◌==◌, nat_le, nat_lt, slice_index}
 use Rattle.std.specs.Option.{option_map}
 use Rattle.std.specs.Str.{bytes_eq}
 use Rattle.vocabulary.specs.Made.{then}
@@ -84,9 +84,16 @@ only_written_so xs (Some c) = cond (bytes_eq (image c) xs) (Some c) None
 unfoldable pub contents_in : List ℕ → Option Contents
 contents_in xs = only_written_so xs (likely xs)
 
--- a list of forbidden networks that a card may hold: at most four, none twice
+-- an area that a card may hold: its code has two octets
+abbrev pub area_fits : Option Lai → Bool
+area_fits None = true
+area_fits (Some a) = nat_lt a.lac 65536
+
+-- what a card may hold: areas whose codes have two octets, and at most four forbidden networks, none twice
 abbrev pub lawful_contents : Contents → Bool
-lawful_contents c = nat_le (length c.forbidden) 4 && distinct same_plmn c.forbidden
+lawful_contents c =
+    (nat_le (length c.forbidden) 4 && distinct same_plmn c.forbidden)
+    && (area_fits (option_map (λ a. a.lai) c.packet.base.area) && area_fits c.circuit.area)
 
 -- The octets mean a card exactly if it is lawful and written as them.
 pub record Means (xs : List ℕ) (meant : Option Contents) : Type 0 where

@@ -1,8 +1,9 @@
 // Writing the image of a card.
 ghost use Rattle.std.specs.Prelude.{◌≡◌, ◌+◌, ◌≤◌, true, ◌++◌, length, take, Some};
+ghost use Rattle.std.specs.Option.{option_map};
 ghost use Rattle.lists.specs.Entries.{plmns};
 ghost use Rattle.card.specs.Contents.{Contents, contents};
-ghost use Rattle.card_image.specs.Meaning.{contents_in, lawful_contents};
+ghost use Rattle.card_image.specs.Meaning.{contents_in, area_fits, lawful_contents};
 ghost use Rattle.card_image.specs.Layout.{status_written, identity_bits, signature_bits, packet_octets, circuit_octets, place_octets, forbidden_octets, image};
 ghost use Rattle.identities.specs.Identities.{four_octets, three_octets};
 
@@ -41,6 +42,7 @@ fn signature_octets(signature: Option<Signature>) -> [u8; 3]
 
 fn packet_octets(packet: &PacketRecord) -> [u8; 14]
     ensures value { result ≡ packet_octets packet.now }
+    ensures fits { area_fits (option_map (λ a. a.lai) packet.now.base.area) ≡ true }
 {
     let [a, b, c, d] = identity_octets(packet.base.identity);
     let [e, f, g] = signature_octets(packet.signature);
@@ -51,6 +53,7 @@ fn packet_octets(packet: &PacketRecord) -> [u8; 14]
 
 fn circuit_octets(circuit: &Record<Lai>) -> [u8; 11]
     ensures value { result ≡ circuit_octets circuit.now }
+    ensures fits { area_fits circuit.now.area ≡ true }
 {
     let [a, b, c, d] = identity_octets(circuit.identity);
     let [e, f, g, h, i] = Lai::octets(circuit.area);

@@ -1,4 +1,4 @@
-use Rattle.std.proofs.Common.{◌≡◌, sym, ap, ◌∙◌, subst}
+use Rattle.std.proofs.Common.{sym, ap, ◌∙◌, subst}
 use Rattle.card_image.specs.Meaning.{only_written_so, contents_in, Means}
 use Rattle.card_image.proofs.Meant.{meant}
 use Rattle.card_image.proofs.reading.card_in.Goals as goal
