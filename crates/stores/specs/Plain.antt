@@ -1,5 +1,5 @@
 -- The plain store.
-use Rattle.std.specs.Prelude.{Some, None, Ok, Err, Option, Result}
+use Rattle.std.specs.Prelude.{Some, None, Option, Result}
 use Rattle.std.specs.Option.{ok_or}
 use Rattle.card.specs.Contents.{contents}
 use Rattle.stores.specs.Slots.{Slot, Empty, Holds}
