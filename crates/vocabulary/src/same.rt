@@ -1,5 +1,5 @@
 // When two places are the same.
-ghost use Rattle.std.specs.Prelude.{◌≡◌};
+ghost use Rattle.std.specs.Prelude.{◌≡◌, ◌↔◌, IsTrue};
 ghost use Rattle.std.specs.Cmp.Rules.{comparing};
 ghost use Rattle.vocabulary.specs.Same.{same_third, same_plmn, same_lai};
 
@@ -38,7 +38,10 @@ impl PartialEq for Plmn {
 
     ghost laws = { Prim.search comparing depth 12 };
 
-    fn eq(&self, other: &Plmn) -> bool {
+    fn eq(&self, other: &Plmn) -> bool
+        ensures value { result ≡ same_plmn self.now other.now }
+        ensures law { IsTrue result ↔ (self.now ≡ other.now) }
+    {
         same_plmn(*self, *other)
     }
 }
@@ -48,7 +51,10 @@ impl PartialEq for Lai {
 
     ghost laws = { Prim.search comparing depth 12 };
 
-    fn eq(&self, other: &Lai) -> bool {
+    fn eq(&self, other: &Lai) -> bool
+        ensures value { result ≡ same_lai self.now other.now }
+        ensures law { IsTrue result ↔ (self.now ≡ other.now) }
+    {
         same_lai(*self, *other)
     }
 }
