@@ -3,8 +3,9 @@
 
 Run once at the top, after the toolchain's own port script. It collects every name with a dash that specs/ and the lemma
 files of proofs/ declare, and writes it with underscores (a name that begins with a capital: in camel case) wherever it
-stands as a whole word in .antt files, in the clauses and ghost items of .rt files, and between backticks in the pages.
-Strings and comments of .rt files stay as they are. It stops before it writes if two names would fall together.
+stands as a whole word in .antt files (also in their strings and comments), in the code of .rt files (their strings and
+comments stay as they are), and between backticks in the pages. What it writes into a string or a page that means another
+thing has to be put back by hand. It stops before it writes if two declared names of a crate would fall together.
 """
 import collections
 import glob
