@@ -3,7 +3,7 @@ use identities::{Imsi, Signature, Tmsi};
 use vocabulary::{Lai, Plmn, Rai};
 
 // Why the network rejects a registration. The names are those of TS 24.008; the numbers stand in specs/Causes.
-#[derive(Clone, Copy)]
+#[derive(Clone, Copy, PartialEq, Eq, Debug)]
 pub enum Cause {
     ImsiUnknownInHlr,
     IllegalMs,

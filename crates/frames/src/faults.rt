@@ -6,7 +6,7 @@ ghost use Rattle.frames.specs.declared.faults.FrameFault.TheVariants.{Element};
 use vocabulary::{Layer, Refusal};
 
 // What is wrong in the elements after the fixed octets. Each case has the octet of the frame, counted from 1.
-#[derive(Clone, Copy)]
+#[derive(Clone, Copy, PartialEq, Eq, Debug)]
 pub enum ElementFault {
     // The frame ends inside an element: the octet that is missing.
     Cut(usize),
@@ -17,7 +17,7 @@ pub enum ElementFault {
 }
 
 // What is wrong in a frame.
-#[derive(Clone, Copy)]
+#[derive(Clone, Copy, PartialEq, Eq, Debug)]
 pub enum FrameFault {
     // Under 2 or over 251 octets.
     Length,
@@ -38,12 +38,12 @@ impl From<ElementFault> for FrameFault {
     }
 }
 
-impl FrameFault {
-    // The number, the layer and the octet that the host is told.
-    pub fn refusal(self) -> Refusal
-        ensures value { result ≡ refusal_of self }
-    {
-        let (number, octet) = match self {
+// The number, the layer and the octet that the host is told.
+impl From<FrameFault> for Refusal {
+    ghost from_gives = { λ fault refusal. refusal ≡ refusal_of fault };
+
+    fn from(fault: FrameFault) -> Refusal {
+        let (number, octet) = match fault {
             FrameFault::Length => (11, 1),
             FrameFault::UnknownFrame => (12, 1),
             FrameFault::Cut(octet) => (13, octet),

@@ -1,6 +1,7 @@
 // The frames of registration, after TS 24.008: those that the network sends are read, those that the modem sends are written.
 #![tactic(auto)]
 
+mod causes;
 mod downlink;
 mod draft;
 mod element_values;

@@ -1,6 +1,5 @@
 // Reading the frames of the network: first whether the frame is whole, then its fixed fields, then its elements.
 ghost use Rattle.std.specs.Prelude.{◌≡◌, ◌≤◌, length, IfOk, Err};
-ghost use Rattle.frames.specs.Causes.{cause_of, cause_number};
 ghost use Rattle.frames.specs.Decoded.{area_in, lai_in, packet_accept, attach_accepted, attach_accept, attach_rejected, attach_reject, detach_accepted, detach_accept, update_accepted, update_accept, update_rejected, update_reject, location_accepted, location_accept, location_rejected, location_reject, decoded};
 ghost use Rattle.frames.specs.Laws.{WrongLength, Obeys};
 ghost use Rattle.frames.specs.declared.faults.FrameFault.TheVariants.{Length};
@@ -10,27 +9,6 @@ use crate::found::Found;
 use crate::tags::Side;
 use crate::{Cause, Downlink, FrameFault, PacketAccept};
 use vocabulary::{Lai, Rai, gprs_seconds};
-
-fn cause_of(octet: u8) -> Cause
-    ensures value { result ≡ cause_of octet }
-    ensures back { cause_number result ≡ octet }
-{
-    match octet {
-        2 => Cause::ImsiUnknownInHlr,
-        3 => Cause::IllegalMs,
-        6 => Cause::IllegalMe,
-        7 => Cause::GprsNotAllowed,
-        8 => Cause::GprsAndNonGprsNotAllowed,
-        9 => Cause::IdentityCannotBeDerived,
-        10 => Cause::ImplicitlyDetached,
-        11 => Cause::PlmnNotAllowed,
-        12 => Cause::LocationAreaNotAllowed,
-        13 => Cause::RoamingNotAllowed,
-        14 => Cause::GprsNotAllowedInPlmn,
-        15 => Cause::NoSuitableCells,
-        other => Cause::Other(other),
-    }
-}
 
 // What an accept of the packet side says, with its area at an octet.
 fn packet_accept(
@@ -100,7 +78,7 @@ fn attach_rejected(found: Found, cause: u8) -> Result<Downlink, FrameFault>
     ensures value { result ≡ attach_rejected cause found }
 {
     let elements = found.packet()?;
-    Ok(Downlink::AttachReject(cause_of(cause), elements))
+    Ok(Downlink::AttachReject(Cause::from(cause), elements))
 }
 
 fn attach_reject(frame: &[u8]) -> Result<Downlink, FrameFault>
@@ -118,7 +96,7 @@ fn update_rejected(found: Found, cause: u8) -> Result<Downlink, FrameFault>
     ensures value { result ≡ update_rejected cause found }
 {
     let elements = found.packet()?;
-    Ok(Downlink::UpdateReject(cause_of(cause), elements))
+    Ok(Downlink::UpdateReject(Cause::from(cause), elements))
 }
 
 fn update_reject(frame: &[u8]) -> Result<Downlink, FrameFault>
@@ -175,7 +153,7 @@ fn location_rejected(found: Found, cause: u8) -> Result<Downlink, FrameFault>
     ensures value { result ≡ location_rejected cause found }
 {
     let elements = found.circuit()?;
-    Ok(Downlink::LocationReject(cause_of(cause), elements))
+    Ok(Downlink::LocationReject(Cause::from(cause), elements))
 }
 
 fn location_reject(frame: &[u8]) -> Result<Downlink, FrameFault>

@@ -3,14 +3,14 @@ ghost use Rattle.std.specs.Prelude.{◌≡◌, ◌≤◌, slice_index};
 ghost use Rattle.frames.specs.Tags.{layout_of, meaning, begin, end};
 
 // The two sides of registration.
-#[derive(Clone, Copy)]
+#[derive(Clone, Copy, PartialEq, Eq, Debug)]
 pub(crate) enum Side {
     Packet,
     Circuit,
 }
 
 // What stands after a tag.
-#[derive(Clone, Copy)]
+#[derive(Clone, Copy, PartialEq, Eq, Debug)]
 pub(crate) enum Layout {
     Alone,
     Fixed(usize),
@@ -18,7 +18,7 @@ pub(crate) enum Layout {
 }
 
 // What a tag means.
-#[derive(Clone, Copy)]
+#[derive(Clone, Copy, PartialEq, Eq, Debug)]
 pub(crate) enum Known {
     PTmsiSignature,
     PTmsi,

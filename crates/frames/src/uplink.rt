@@ -23,14 +23,14 @@ pub struct CircuitStored {
 }
 
 // The types of a routing area update; the numbers stand in specs/Octets.
-#[derive(Clone, Copy)]
+#[derive(Clone, Copy, PartialEq, Eq, Debug)]
 pub enum RoutingUpdate {
     Normal,
     Periodic,
 }
 
 // The types of a location update.
-#[derive(Clone, Copy)]
+#[derive(Clone, Copy, PartialEq, Eq, Debug)]
 pub enum LocationUpdate {
     Normal,
     Periodic,
@@ -38,7 +38,7 @@ pub enum LocationUpdate {
 }
 
 // The types of a packet detach.
-#[derive(Clone, Copy)]
+#[derive(Clone, Copy, PartialEq, Eq, Debug)]
 pub enum DetachType {
     Gprs,
     SwitchOff,
@@ -58,7 +58,7 @@ pub enum Uplink {
 }
 
 // Why a message is not written. No number goes with it: it is for the caller in this device alone.
-#[derive(Clone, Copy)]
+#[derive(Clone, Copy, PartialEq, Eq, Debug)]
 pub enum WriteFault {
     NoRoom,
 }
