@@ -11,7 +11,7 @@ use Rattle.identities.specs.declared.values.Signature.{Signature}
 use Rattle.identities.specs.declared.values.Tmsi.{Tmsi}
 use Rattle.frames.specs.Causes.{cause_of}
 use Rattle.frames.specs.Decoded.{accepted, area_in, lai_in, onward, framed, packet_accept, attach_accepted, attach_accept, attach_rejected, attach_reject, detach_accepted, detach_accept, update_accepted, update_accept, update_rejected, update_reject, location_accepted, location_accept, location_rejected, location_reject, begins, by_kind, decoded}
-use Rattle.frames.specs.Elements.{nothing, walk, judged, packet_elements, circuit_elements}
+use Rattle.frames.specs.Elements.{nothing, walk, judged, packet_found, packet_elements, circuit_found, circuit_elements}
 use Rattle.frames.specs.Laws.{NoMarks, NoMarkArea, NoMarkTmsi, NoMarkSignature, NoMarkIdentity, NoMarksPacket, AreaStands, Elements, PacketValues, CircuitValues, ValuesStand, Obeys, frame_kind, fixed_octets, side_of}
 use Rattle.frames.specs.declared.downlink.Downlink.{Downlink}
 use Rattle.frames.specs.declared.downlink.Downlink.TheVariants.{AttachAccept, AttachReject, DetachAccept, UpdateAccept, UpdateReject, LocationAccept, LocationReject}
@@ -28,7 +28,7 @@ use Rattle.frames.specs.declared.tags.Side.TheVariants.{Packet, Circuit}
 use Rattle.frames.proofs.LawsAreas.{from, take_from, lai_stands, rai_stands}
 use Rattle.frames.proofs.LawsElements.{octets_drop, whole_elements}
 use Rattle.frames.proofs.LawsPlaces.{decimal_places}
-use Rattle.frames.proofs.LawsSlots.{packet_found, packet_values, circuit_found, circuit_values}
+use Rattle.frames.proofs.LawsSlots.{packet_values, circuit_values}
 
 real_area : (a : Lai) → NoMarkArea a
 real_area a mark = let h = a.lawful in grind (arith, nat_tests)

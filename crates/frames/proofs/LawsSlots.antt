@@ -1,6 +1,6 @@
 -- Each value that is read is that of the first element of its tag.
 use Rattle.std.proofs.Common.{◌≡◌, ℕ, List, None, Ok, refl, subst}
-use Rattle.frames.specs.Elements.{nothing, walk, noted}
+use Rattle.frames.specs.Elements.{nothing, walk, noted, packet_found, circuit_found}
 use Rattle.frames.specs.Laws.{PacketValues, CircuitValues}
 use Rattle.frames.specs.LawsValues.{CodesTmsi, CodesSignature, CodesTimer, CodesPlmns, CodesIdentity}
 use Rattle.frames.specs.Values.{tmsi_value, identity_value, signature_value, timer_value, plmns_value}
@@ -13,10 +13,6 @@ use Rattle.frames.proofs.LawsElements.{Octets, meant}
 use Rattle.frames.proofs.LawsFirst.{from_first}
 use Rattle.frames.proofs.LawsIdentities.{codes_identity}
 use Rattle.frames.proofs.LawsPlmns.{codes_plmns}
-
--- the elements of a side, as they were found
-abbrev pub packet_found : Found → PacketElements
-packet_found f = record { signature = f.signature; p_tmsi = f.p_tmsi; t3302 = f.t3302; equivalents = f.equivalents }
 
 pub packet_values : (g : Found) (es : PacketElements) (at : ℕ) (xs : List ℕ) → packet_found g ≡ es → Octets xs → g.bad ≡ None → walk Packet nothing at xs 0 ≡ Ok g → PacketValues es xs
 packet_values g es at xs same octets clean e =
@@ -42,9 +38,6 @@ packet_values g es at xs same octets clean e =
           (λ _. refl) (λ _. refl) (λ _. refl) (λ _. refl) (λ t. absurd (ne t)) (λ _. refl) (λ _. refl))
           codes_plmns g at xs refl octets clean e;
     })
-
-abbrev pub circuit_found : Found → CircuitElements
-circuit_found f = record { identity = f.identity; equivalents = f.equivalents }
 
 pub circuit_values : (g : Found) (es : CircuitElements) (at : ℕ) (xs : List ℕ) → circuit_found g ≡ es → Octets xs → g.bad ≡ None → walk Circuit nothing at xs 0 ≡ Ok g → CircuitValues es xs
 circuit_values g es at xs same octets clean e =

@@ -1,4 +1,5 @@
 pub mod Walks
+pub mod Parts
 pub mod Chains
 pub mod LawsWritten
 pub mod LawsAreas

@@ -92,9 +92,16 @@ judged (Some at) low x = Err (BadValue at)
 judged None (Some at) x = Err (UnknownTag at)
 judged None None x = Ok x
 
+-- the elements of the packet side, as they were found
+abbrev pub packet_found : Found → PacketElements
+packet_found f = record { signature = f.signature; p_tmsi = f.p_tmsi; t3302 = f.t3302; equivalents = f.equivalents }
+
 abbrev pub packet_elements : Found → Result PacketElements ElementFault
-packet_elements f =
-    judged f.bad f.low (record { signature = f.signature; p_tmsi = f.p_tmsi; t3302 = f.t3302; equivalents = f.equivalents })
+packet_elements f = judged f.bad f.low (packet_found f)
+
+-- the elements of the circuit side, as they were found
+abbrev pub circuit_found : Found → CircuitElements
+circuit_found f = record { identity = f.identity; equivalents = f.equivalents }
 
 abbrev pub circuit_elements : Found → Result CircuitElements ElementFault
-circuit_elements f = judged f.bad f.low (record { identity = f.identity; equivalents = f.equivalents })
+circuit_elements f = judged f.bad f.low (circuit_found f)

@@ -1,6 +1,6 @@
 // Reading the frames of the network: first whether the frame is whole, then its fixed fields, then its elements.
-ghost use Rattle.std.specs.Prelude.{◌≡◌, ◌≤◌, length, IfOk, Err};
-ghost use Rattle.frames.specs.Decoded.{area_in, lai_in, packet_accept, attach_accepted, attach_accept, attach_rejected, attach_reject, detach_accepted, detach_accept, update_accepted, update_accept, update_rejected, update_reject, location_accepted, location_accept, location_rejected, location_reject, decoded};
+ghost use Rattle.std.specs.Prelude.{◌≡◌, IfOk, Ok, Err, take};
+ghost use Rattle.frames.specs.Decoded.{area_in, framed, packet_accept, attach_accept, attach_reject, detach_accept, update_accept, update_reject, location_accept, location_reject, decoded};
 ghost use Rattle.frames.specs.Laws.{WrongLength, Obeys};
 ghost use Rattle.frames.specs.declared.faults.FrameFault.TheVariants.{Length};
 
@@ -9,6 +9,17 @@ use crate::found::Found;
 use crate::tags::Side;
 use crate::{Cause, Downlink, FrameFault, PacketAccept};
 use vocabulary::{Lai, Rai, gprs_seconds};
+
+// The fixed octets of a frame, and what is found in the elements after them: it may be cut short in either.
+fn parts<const N: usize>(side: Side, frame: &[u8]) -> Result<([u8; N], Found), FrameFault>
+    ensures value { result ≡ framed side N frame.now (λ found. Ok (take N frame.now, found)) }
+{
+    let Some(fixed) = frame.first_chunk::<N>() else {
+        return Err(FrameFault::Cut(frame.len() + 1));
+    };
+    let found = walk(side, frame, N)?;
+    Ok((*fixed, found))
+}
 
 // What an accept of the packet side says, with its area at an octet.
 fn packet_accept(
@@ -22,149 +33,73 @@ fn packet_accept(
     let Some(rai) = Rai::from_octets(area) else {
         return Err(FrameFault::BadValue(at));
     };
-    let elements = found.packet()?;
     Ok(PacketAccept {
         t3312: gprs_seconds(timer),
         rai,
-        elements,
+        elements: found.elements()?,
     })
 }
 
-// The values of an attach accept: the result stands in the low half of its octet.
-fn attach_accepted(found: Found, res: u8, timer: u8, area: [u8; 6]) -> Result<Downlink, FrameFault>
-    ensures value { result ≡ attach_accepted res timer (area_in area) found }
+// The result stands in the low half of its octet.
+fn attach_accept(frame: &[u8]) -> Result<Downlink, FrameFault>
+    ensures value { result ≡ attach_accept frame.now }
 {
-    let 1 = res % 16 else {
+    let ([_, _, result, timer, _, a, b, c, d, e, f], found) = parts::<11>(Side::Packet, frame)?;
+    let 1 = result % 16 else {
         return Err(FrameFault::BadValue(3));
     };
-    let accept = packet_accept(found, timer, area, 6)?;
+    let accept = packet_accept(found, timer, [a, b, c, d, e, f], 6)?;
     Ok(Downlink::AttachAccept(accept))
 }
 
-fn attach_accept(frame: &[u8]) -> Result<Downlink, FrameFault>
-    requires { length frame.now ≤ 251 }
-    ensures value { result ≡ attach_accept frame.now }
+// The result stands in the high half of its octet.
+fn update_accept(frame: &[u8]) -> Result<Downlink, FrameFault>
+    ensures value { result ≡ update_accept frame.now }
 {
-    let [_, _, result, timer, _, a, b, c, d, e, f, rest @ ..] = frame else {
-        return Err(FrameFault::Cut(frame.len() + 1));
-    };
-    let found = walk(Side::Packet, rest, 12)?;
-    attach_accepted(found, *result, *timer, [*a, *b, *c, *d, *e, *f])
-}
-
-// The values of a routing area update accept: the result stands in the high half of its octet.
-fn update_accepted(found: Found, res: u8, timer: u8, area: [u8; 6]) -> Result<Downlink, FrameFault>
-    ensures value { result ≡ update_accepted res timer (area_in area) found }
-{
-    let 0 = res / 16 else {
+    let ([_, _, result, timer, a, b, c, d, e, f], found) = parts::<10>(Side::Packet, frame)?;
+    let 0 = result / 16 else {
         return Err(FrameFault::BadValue(3));
     };
-    let accept = packet_accept(found, timer, area, 5)?;
+    let accept = packet_accept(found, timer, [a, b, c, d, e, f], 5)?;
     Ok(Downlink::UpdateAccept(accept))
 }
 
-fn update_accept(frame: &[u8]) -> Result<Downlink, FrameFault>
-    requires { length frame.now ≤ 251 }
-    ensures value { result ≡ update_accept frame.now }
-{
-    let [_, _, result, timer, a, b, c, d, e, f, rest @ ..] = frame else {
-        return Err(FrameFault::Cut(frame.len() + 1));
-    };
-    let found = walk(Side::Packet, rest, 11)?;
-    update_accepted(found, *result, *timer, [*a, *b, *c, *d, *e, *f])
-}
-
-fn attach_rejected(found: Found, cause: u8) -> Result<Downlink, FrameFault>
-    ensures value { result ≡ attach_rejected cause found }
-{
-    let elements = found.packet()?;
-    Ok(Downlink::AttachReject(Cause::from(cause), elements))
-}
-
 fn attach_reject(frame: &[u8]) -> Result<Downlink, FrameFault>
-    requires { length frame.now ≤ 251 }
     ensures value { result ≡ attach_reject frame.now }
 {
-    let [_, _, cause, rest @ ..] = frame else {
-        return Err(FrameFault::Cut(frame.len() + 1));
-    };
-    let found = walk(Side::Packet, rest, 4)?;
-    attach_rejected(found, *cause)
-}
-
-fn update_rejected(found: Found, cause: u8) -> Result<Downlink, FrameFault>
-    ensures value { result ≡ update_rejected cause found }
-{
-    let elements = found.packet()?;
-    Ok(Downlink::UpdateReject(Cause::from(cause), elements))
+    let ([_, _, cause], found) = parts::<3>(Side::Packet, frame)?;
+    Ok(Downlink::AttachReject(cause.into(), found.elements()?))
 }
 
 fn update_reject(frame: &[u8]) -> Result<Downlink, FrameFault>
-    requires { length frame.now ≤ 251 }
     ensures value { result ≡ update_reject frame.now }
 {
-    let [_, _, cause, _, rest @ ..] = frame else {
-        return Err(FrameFault::Cut(frame.len() + 1));
-    };
-    let found = walk(Side::Packet, rest, 5)?;
-    update_rejected(found, *cause)
-}
-
-fn detach_accepted(found: Found) -> Result<Downlink, FrameFault>
-    ensures value { result ≡ detach_accepted found }
-{
-    let elements = found.packet()?;
-    Ok(Downlink::DetachAccept(elements))
+    let ([_, _, cause, _], found) = parts::<4>(Side::Packet, frame)?;
+    Ok(Downlink::UpdateReject(cause.into(), found.elements()?))
 }
 
 fn detach_accept(frame: &[u8]) -> Result<Downlink, FrameFault>
-    requires { length frame.now ≤ 251 }
     ensures value { result ≡ detach_accept frame.now }
 {
-    let [_, _, _, rest @ ..] = frame else {
-        return Err(FrameFault::Cut(frame.len() + 1));
-    };
-    let found = walk(Side::Packet, rest, 4)?;
-    detach_accepted(found)
-}
-
-fn location_accepted(found: Found, area: [u8; 5]) -> Result<Downlink, FrameFault>
-    ensures value { result ≡ location_accepted (lai_in area) found }
-{
-    let Some(lai) = Lai::from_octets(area) else {
-        return Err(FrameFault::BadValue(3));
-    };
-    let elements = found.circuit()?;
-    Ok(Downlink::LocationAccept(lai, elements))
+    let ([_, _, _], found) = parts::<3>(Side::Packet, frame)?;
+    Ok(Downlink::DetachAccept(found.elements()?))
 }
 
 fn location_accept(frame: &[u8]) -> Result<Downlink, FrameFault>
-    requires { length frame.now ≤ 251 }
     ensures value { result ≡ location_accept frame.now }
 {
-    let [_, _, a, b, c, d, e, rest @ ..] = frame else {
-        return Err(FrameFault::Cut(frame.len() + 1));
+    let ([_, _, a, b, c, d, e], found) = parts::<7>(Side::Circuit, frame)?;
+    let Some(lai) = Lai::from_octets([a, b, c, d, e]) else {
+        return Err(FrameFault::BadValue(3));
     };
-    let found = walk(Side::Circuit, rest, 8)?;
-    location_accepted(found, [*a, *b, *c, *d, *e])
-}
-
-fn location_rejected(found: Found, cause: u8) -> Result<Downlink, FrameFault>
-    ensures value { result ≡ location_rejected cause found }
-{
-    let elements = found.circuit()?;
-    Ok(Downlink::LocationReject(Cause::from(cause), elements))
+    Ok(Downlink::LocationAccept(lai, found.elements()?))
 }
 
 fn location_reject(frame: &[u8]) -> Result<Downlink, FrameFault>
-    requires { length frame.now ≤ 251 }
     ensures value { result ≡ location_reject frame.now }
 {
-    let [_, _, cause, rest @ ..] = frame else {
-        return Err(FrameFault::Cut(frame.len() + 1));
-    };
-    let found = walk(Side::Circuit, rest, 4)?;
-    location_rejected(found, *cause)
+    let ([_, _, cause], found) = parts::<3>(Side::Circuit, frame)?;
+    Ok(Downlink::LocationReject(cause.into(), found.elements()?))
 }
 
 // What a frame says, or why it is refused: 11 to 15, in the order of their numbers over the whole frame.
