@@ -179,11 +179,5 @@ module _ (xs : List ℕ) (octets : (i : ℕ) → get_or xs i 0 < 256) (least : 2
       (either 0x05 0x02 _ _ location_accept_obeys
       (either 0x05 0x04 _ _ location_reject_obeys tt))))))
 
-decoded_obeys : (xs : List ℕ) → ((i : ℕ) → get_or xs i 0 < 256) → IfOk (decoded xs) (λ m. Obeys m xs)
-decoded_obeys xs octets =
-    cond_both (ltb (length xs) 2) _ _ (λ r. IfOk r (λ m. Obeys m xs)) (λ _. tt)
-    (λ least. cond_both (ltb 251 (length xs)) _ _ (λ r. IfOk r (λ m. Obeys m xs)) (λ _. tt)
-    (λ most. by_kind_obeys xs octets (ltb-false _ _ least) (ltb-false _ _ most)))
-
-pub read_obeys : (xs : List ℕ) (r : Result Downlink FrameFault) → ((i : ℕ) → Fits w8 (get_or xs i 0)) → r ≡ decoded xs → IfOk r (λ m. Obeys m xs)
-read_obeys xs r octets e = subst (λ x. IfOk x (λ m. Obeys m xs)) (sym e) (decoded_obeys xs (λ i. omega (arith, octets i)))
+pub read_obeys : (xs : List ℕ) (r : Result Downlink FrameFault) → ((i : ℕ) → Fits w8 (get_or xs i 0)) → 2 ≤ length xs → length xs ≤ 251 → r ≡ by_kind xs → IfOk r (λ m. Obeys m xs)
+read_obeys xs r octets least most e = subst (λ x. IfOk x (λ m. Obeys m xs)) (sym e) (by_kind_obeys xs (λ i. omega (arith, octets i)) least most)

@@ -1,6 +1,6 @@
 // Reading the frames of the network: first whether the frame is whole, then its fixed fields, then its elements.
 ghost use Rattle.std.specs.Prelude.{◌≡◌, IfOk, Ok, Err, take};
-ghost use Rattle.frames.specs.Decoded.{area_in, framed, packet_accept, attach_accept, attach_reject, detach_accept, update_accept, update_reject, location_accept, location_reject, decoded};
+ghost use Rattle.frames.specs.Decoded.{area_in, framed, packet_accept, attach_accept, attach_reject, detach_accept, update_accept, update_reject, location_accept, location_reject, by_kind, decoded};
 ghost use Rattle.frames.specs.Laws.{WrongLength, Obeys};
 ghost use Rattle.frames.specs.declared.faults.FrameFault.TheVariants.{Length};
 
@@ -102,15 +102,10 @@ fn location_reject(frame: &[u8]) -> Result<Downlink, FrameFault>
     Ok(Downlink::LocationReject(cause.into(), found.elements()?))
 }
 
-// What a frame says, or why it is refused: 11 to 15, in the order of their numbers over the whole frame.
-pub fn read(frame: &[u8]) -> Result<Downlink, FrameFault>
-    ensures value { result ≡ decoded frame.now }
-    ensures refused { WrongLength frame.now → result ≡ Err Length }
-    ensures layout { IfOk result (λ m. Obeys m frame.now) }
+// What a frame says by its first two octets: the protocol and the type.
+fn by_kind(frame: &[u8]) -> Result<Downlink, FrameFault>
+    ensures value { result ≡ by_kind frame.now }
 {
-    if frame.len() < 2 || frame.len() > 251 {
-        return Err(FrameFault::Length);
-    }
     match frame {
         [0x08, 0x02, ..] => attach_accept(frame),
         [0x08, 0x04, ..] => attach_reject(frame),
@@ -121,4 +116,16 @@ pub fn read(frame: &[u8]) -> Result<Downlink, FrameFault>
         [0x05, 0x04, ..] => location_reject(frame),
         _ => Err(FrameFault::UnknownFrame),
     }
+}
+
+// What a frame says, or why it is refused: 11 to 15, in the order of their numbers over the whole frame.
+pub fn read(frame: &[u8]) -> Result<Downlink, FrameFault>
+    ensures value { result ≡ decoded frame.now }
+    ensures refused { WrongLength frame.now → result ≡ Err Length }
+    ensures layout { IfOk result (λ m. Obeys m frame.now) }
+{
+    if frame.len() < 2 || frame.len() > 251 {
+        return Err(FrameFault::Length);
+    }
+    by_kind(frame)
 }
