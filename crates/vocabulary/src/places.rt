@@ -39,6 +39,7 @@ fn plmn_when(mcc1: u8, mcc2: u8, mcc3: u8, mnc1: u8, mnc2: u8, mnc3: Option<u8>)
     }
 }
 
+// Octets are read and written by `from_octets` and `octets`, as std's addresses are: `Option` says all that is known of a failure.
 impl Plmn {
     // The network that three octets name, if their digits are lawful.
     pub fn from_octets(octets: [u8; 3]) -> Option<Plmn>
