@@ -25,6 +25,9 @@ thirty_two_bits n h =
 pub tmsi_back : (t : Tmsi) → tmsi_of (t.bits / 16777216 % 256) (t.bits / 65536 % 256) (t.bits / 256 % 256) (t.bits % 256) ≡ Some t
 tmsi_back t = ap tmsi_when (thirty_two_bits t.bits (let h = t.lawful in grind (arith, nat_tests))) ∙ sym (tmsi_made t)
 
+pub signature_high : (s : Signature) → s.bits / 65536 % 256 ≡ s.bits / 65536
+signature_high s = let h = s.lawful in grind (arith, nat_tests)
+
 pub signature_back : (s : Signature) → signature_of (s.bits / 65536) (s.bits / 256 % 256) (s.bits % 256) ≡ Some s
 signature_back s = ap signature_when (twenty_four_bits s.bits) ∙ sym (signature_made s)
 

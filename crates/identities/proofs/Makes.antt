@@ -1,6 +1,6 @@
 -- A value is what its own fields make.
 use Rattle.std.proofs.Common.{◌≡◌, ℕ, false, List, Some, None}
-use Rattle.vocabulary.proofs.Makes.{some_when, none_when}
+use Rattle.vocabulary.specs.Made.{some_when, none_when}
 use Rattle.identities.specs.Marks.{lawful_tmsi, lawful_signature, lawful_key, lawful_imsi}
 use Rattle.identities.specs.Identities.{tmsi_when, signature_when, key_when, imsi_when}
 use Rattle.identities.specs.declared.values.Imsi.{Imsi}

@@ -22,6 +22,10 @@ tmsi_when n = when (lawful_tmsi n) (λ lawful. record { bits = n; lawful = lawfu
 abbrev pub tmsi_of : ℕ → ℕ → ℕ → ℕ → Option Tmsi
 tmsi_of a b c d = tmsi_when (a * 16777216 + b * 65536 + c * 256 + d)
 
+-- the temporary identity that the octets of a list name
+abbrev pub tmsi_in : List ℕ → Option Tmsi
+tmsi_in o = tmsi_of (slice_index o 0) (slice_index o 1) (slice_index o 2) (slice_index o 3)
+
 abbrev pub tmsi_octets : Tmsi → List ℕ
 tmsi_octets t = four_octets t.bits
 
@@ -32,6 +36,10 @@ signature_when n = when (lawful_signature n) (λ lawful. record { bits = n; lawf
 -- the signature that three octets name, the highest first
 abbrev pub signature_of : ℕ → ℕ → ℕ → Option Signature
 signature_of a b c = signature_when (a * 65536 + b * 256 + c)
+
+-- the signature that the octets of a list name
+abbrev pub signature_in : List ℕ → Option Signature
+signature_in o = signature_of (slice_index o 0) (slice_index o 1) (slice_index o 2)
 
 abbrev pub signature_octets : Signature → List ℕ
 signature_octets s = three_octets s.bits

@@ -1,28 +1,10 @@
 // Identities and keys, and their octets.
 ghost use Rattle.std.specs.Prelude.{◌≡◌, ◌<◌, length, take, drop, Some, slice_index, slice_index_or};
 ghost use Rattle.identities.specs.Marks.{place_fits, digits_then_filler, lawful_imsi, lawful_tmsi, lawful_signature, lawful_key};
-ghost use Rattle.identities.specs.Identities.{four_octets, three_octets, tmsi_when, tmsi_of, tmsi_octets, signature_when, signature_of, signature_octets, key_when, key_written, imsi_when, imsi_from, imsi_octets, imsi_of, imsi_type, pair, places_of, digits_in};
+ghost use Rattle.identities.specs.Identities.{tmsi_when, tmsi_in, tmsi_octets, signature_when, signature_in, signature_octets, key_when, key_written, imsi_when, imsi_from, imsi_octets, imsi_of, imsi_type, pair, places_of, digits_in};
 
 use crate::{Imsi, KeyNumber, Signature, Tmsi};
-
-// The octets of 32 bits, the highest first.
-fn four_octets(bits: u32) -> [u8; 4]
-    ensures { result ≡ four_octets bits }
-{
-    bits.to_be_bytes()
-}
-
-// The octets of 24 bits, the highest first.
-fn three_octets(bits: u32) -> [u8; 3]
-    requires { bits < 16777216 }
-    ensures { result ≡ three_octets bits }
-{
-    [
-        (bits / 65536) as u8,
-        (bits / 256 % 256) as u8,
-        (bits % 256) as u8,
-    ]
-}
+use std::array;
 
 fn lawful_tmsi(bits: u32) -> bool
     ensures { result ≡ lawful_tmsi bits }
@@ -42,12 +24,19 @@ impl Tmsi {
         }
     }
 
-    // The octets of the identity, the highest first.
+    // The identity that four octets name, the highest first, unless they are the mark.
+    pub fn from_octets(octets: [u8; 4]) -> Option<Tmsi>
+        ensures value { result ≡ tmsi_in octets }
+    {
+        Tmsi::new(u32::from_be_bytes(octets))
+    }
+
+    // The octets of the identity, the highest first; they read back as this identity.
     pub fn octets(self) -> [u8; 4]
         ensures value { result ≡ tmsi_octets self }
-        ensures back { tmsi_of (slice_index result 0) (slice_index result 1) (slice_index result 2) (slice_index result 3) ≡ Some self }
+        ensures back { tmsi_in result ≡ Some self }
     {
-        four_octets(self.bits)
+        self.bits.to_be_bytes()
     }
 }
 
@@ -69,12 +58,21 @@ impl Signature {
         }
     }
 
-    // The octets of the signature, the highest first.
+    // The signature that three octets name, the highest first, unless they are the mark.
+    pub fn from_octets(octets: [u8; 3]) -> Option<Signature>
+        ensures value { result ≡ signature_in octets }
+    {
+        let [a, b, c] = octets;
+        Signature::new(u32::from_be_bytes([0, a, b, c]))
+    }
+
+    // The octets of the signature, the highest first; they read back as this signature.
     pub fn octets(self) -> [u8; 3]
         ensures value { result ≡ signature_octets self }
-        ensures back { signature_of (slice_index result 0) (slice_index result 1) (slice_index result 2) ≡ Some self }
+        ensures back { signature_in result ≡ Some self }
     {
-        three_octets(self.bits)
+        let [_, a, b, c] = self.bits.to_be_bytes();
+        [a, b, c]
     }
 }
 
@@ -146,23 +144,13 @@ fn imsi_when(digits: [u8; 15], len: usize) -> Option<Imsi>
 fn octet_or_filler(coded: &[u8], at: usize) -> u8
     ensures { result ≡ slice_index_or coded.now at 255 }
 {
-    if at < coded.len() { coded[at] } else { 255 }
+    coded.get(at).copied().unwrap_or(255)
 }
 
 fn places_of(coded: &[u8]) -> [u8; 15]
     ensures { result ≡ places_of coded.now }
 {
-    let (a, b, c) = (
-        octet_or_filler(coded, 0),
-        octet_or_filler(coded, 1),
-        octet_or_filler(coded, 2),
-    );
-    let (d, e, f) = (
-        octet_or_filler(coded, 3),
-        octet_or_filler(coded, 4),
-        octet_or_filler(coded, 5),
-    );
-    let (g, h) = (octet_or_filler(coded, 6), octet_or_filler(coded, 7));
+    let [a, b, c, d, e, f, g, h]: [u8; 8] = array::from_fn(|at| octet_or_filler(coded, at));
     [
         a / 16,
         b % 16,
@@ -225,6 +213,7 @@ impl Imsi {
         self.coded()
     }
 
+    // Written out octet by octet, since so it reads as the layout does; a loop over pairs of digits would be no plainer.
     fn coded(self) -> [u8; 9]
         ensures { result ≡ imsi_octets self }
     {

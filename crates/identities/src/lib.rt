@@ -2,6 +2,7 @@
 #![tactic(auto)]
 
 mod identities;
+mod shown;
 mod values;
 
 pub use values::{Imsi, KeyNumber, Signature, Tmsi};

@@ -7,7 +7,7 @@ use Rattle.vocabulary.specs.Marks.{lawful_plmn}
 use Rattle.vocabulary.specs.Places.{plmn_when, lai_when, plmn_of, lai_of, third_half, third_of}
 use Rattle.vocabulary.specs.declared.values.Plmn.{Plmn}
 use Rattle.vocabulary.specs.declared.values.Lai.{Lai}
-use Rattle.vocabulary.proofs.Makes.{plmn_made, lai_made}
+use Rattle.vocabulary.specs.Told.{plmn_made, lai_made}
 
 low_halves : (p : Plmn) → (p.mcc1 < 16) × (p.mcc3 < 16) × (p.mnc1 < 16)
 low_halves p = let h = p.lawful in (grind (arith, nat_tests), grind (arith, nat_tests), grind (arith, nat_tests))

@@ -1,4 +1,3 @@
 pub mod Back
-pub mod Equalities
 pub mod Inversions
 pub mod Makes

@@ -2,4 +2,5 @@ pub mod Made
 pub mod Marks
 pub mod Places
 pub mod Same
+pub mod Told
 pub mod Timers

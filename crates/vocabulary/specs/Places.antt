@@ -1,6 +1,6 @@
 -- PLMN, location area and routing area, and their octets.
-use Rattle.std.specs.Prelude.{ℕ, ◌+◌, ◌*◌, ◌/◌, ◌%◌, cond, List, [], ◌∷◌, ◌++◌, Some, None, Option, ◌==◌}
-use Rattle.std.specs.Option.{option_map}
+use Rattle.std.specs.Prelude.{ℕ, ◌+◌, ◌*◌, ◌/◌, ◌%◌, cond, List, [], ◌∷◌, ◌++◌, Some, None, Option, ◌==◌, slice_index}
+use Rattle.std.specs.Option.{option_map, unwrap_or}
 use Rattle.vocabulary.specs.Made.{when, then}
 use Rattle.vocabulary.specs.Marks.{lawful_plmn, lawful_lac}
 use Rattle.vocabulary.specs.declared.values.Plmn.{Plmn}
@@ -9,8 +9,7 @@ use Rattle.vocabulary.specs.declared.values.Rai.{Rai}
 
 -- the third digit of the network code, in the high half of the second octet: F where there is none
 abbrev pub third_half : Option ℕ → ℕ
-third_half None = 15
-third_half (Some n) = n
+third_half digit = unwrap_or digit 15
 
 abbrev pub third_of : ℕ → Option ℕ
 third_of n = cond (n == 15) None (Some n)
@@ -51,3 +50,13 @@ lai_of a b c d e = then (plmn_of a b c) (λ p. lai_when p (d * 256 + e))
 -- the routing area that six octets name
 abbrev pub rai_of : ℕ → ℕ → ℕ → ℕ → ℕ → ℕ → Option Rai
 rai_of a b c d e f = option_map (λ area. record { lai = area; rac = f }) (lai_of a b c d e)
+
+-- the place that the octets of a list name, as many as a place of its kind has
+abbrev pub plmn_in : List ℕ → Option Plmn
+plmn_in o = plmn_of (slice_index o 0) (slice_index o 1) (slice_index o 2)
+
+abbrev pub lai_in : List ℕ → Option Lai
+lai_in o = lai_of (slice_index o 0) (slice_index o 1) (slice_index o 2) (slice_index o 3) (slice_index o 4)
+
+abbrev pub rai_in : List ℕ → Option Rai
+rai_in o = rai_of (slice_index o 0) (slice_index o 1) (slice_index o 2) (slice_index o 3) (slice_index o 4) (slice_index o 5)

@@ -1,5 +1,5 @@
 -- When two places are the same: a test that tells by their codes.
-use Rattle.std.specs.Prelude.{ℕ, Bool, Option, ◌==◌}
+use Rattle.std.specs.Prelude.{ℕ, Bool, None, Option, ◌==◌, refl}
 use Rattle.std.specs.Ordering.{on, eq_of_both}
 use Rattle.std.specs.Option.{option_eq}
 use Rattle.vocabulary.specs.declared.values.Plmn.{Plmn}
@@ -16,3 +16,10 @@ same_plmn =
 
 abbrev pub same_lai : Lai → Lai → Bool
 same_lai = eq_of_both (on (λ a. a.plmn) same_plmn) (on (λ a. a.lac) ◌==◌)
+
+-- what stands in a slot of a list that has no entry
+abbrev pub no_plmn : Plmn
+no_plmn = record { mcc1 = 0; mcc2 = 0; mcc3 = 0; mnc1 = 0; mnc2 = 0; mnc3 = None; lawful = refl }
+
+abbrev pub no_lai : Lai
+no_lai = record { plmn = no_plmn; lac = 0; lawful = refl }

@@ -4,9 +4,11 @@
 mod places;
 mod refusals;
 mod same;
+mod shown;
 mod timers;
 mod values;
 
 pub use refusals::{Layer, Refusal};
+pub use same::Place;
 pub use timers::gprs_seconds;
 pub use values::{Lai, Plmn, Rai};

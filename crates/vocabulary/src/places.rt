@@ -1,18 +1,9 @@
 // Places and their octets.
-ghost use Rattle.std.specs.Prelude.{◌≡◌, Some, slice_index};
+ghost use Rattle.std.specs.Prelude.{◌≡◌, Some};
 ghost use Rattle.vocabulary.specs.Marks.{lawful_plmn, lawful_lac};
-ghost use Rattle.vocabulary.specs.Places.{plmn_when, lai_when, plmn_of, lai_of, rai_of, plmn_octets, lai_octets, rai_octets, third_half, third_of};
+ghost use Rattle.vocabulary.specs.Places.{plmn_when, lai_when, plmn_in, lai_in, rai_in, plmn_octets, lai_octets, rai_octets, third_of};
 
 use crate::{Lai, Plmn, Rai};
-
-fn third_half(digit: Option<u8>) -> u8
-    ensures { result ≡ third_half digit }
-{
-    match digit {
-        Some(digit) => digit,
-        None => 15,
-    }
-}
 
 fn third_of(half: u8) -> Option<u8>
     ensures { result ≡ third_of half }
@@ -23,11 +14,12 @@ fn third_of(half: u8) -> Option<u8>
 fn lawful_digits(mcc1: u8, mcc2: u8, mcc3: u8, mnc1: u8, mnc2: u8, mnc3: Option<u8>) -> bool
     ensures { result ≡ lawful_plmn mcc1 mcc2 mcc3 mnc1 mnc2 mnc3 }
 {
-    let third = match mnc3 {
-        Some(digit) => digit < 10,
-        None => true,
-    };
-    mcc1 < 10 && mcc2 < 10 && mcc3 < 10 && mnc1 < 10 && mnc2 < 10 && third
+    mcc1 < 10
+        && mcc2 < 10
+        && mcc3 < 10
+        && mnc1 < 10
+        && mnc2 < 10
+        && mnc3.is_none_or(|digit| digit < 10)
 }
 
 fn plmn_when(mcc1: u8, mcc2: u8, mcc3: u8, mnc1: u8, mnc2: u8, mnc3: Option<u8>) -> Option<Plmn>
@@ -47,10 +39,11 @@ fn plmn_when(mcc1: u8, mcc2: u8, mcc3: u8, mnc1: u8, mnc2: u8, mnc3: Option<u8>)
     }
 }
 
+// Octets are read and written by `from_octets` and `octets`, as std's addresses are: `Option` says all that is known of a failure.
 impl Plmn {
     // The network that three octets name, if their digits are lawful.
     pub fn from_octets(octets: [u8; 3]) -> Option<Plmn>
-        ensures value { result ≡ plmn_of (slice_index octets 0) (slice_index octets 1) (slice_index octets 2) }
+        ensures value { result ≡ plmn_in octets }
     {
         let [a, b, c] = octets;
         plmn_when(a % 16, a / 16, b % 16, c % 16, c / 16, third_of(b / 16))
@@ -59,11 +52,11 @@ impl Plmn {
     // The octets of a network; they read back as this network.
     pub fn octets(self) -> [u8; 3]
         ensures value { result ≡ plmn_octets self }
-        ensures back { plmn_of (slice_index result 0) (slice_index result 1) (slice_index result 2) ≡ Some self }
+        ensures back { plmn_in result ≡ Some self }
     {
         [
             self.mcc2 * 16 + self.mcc1,
-            third_half(self.mnc3) * 16 + self.mcc3,
+            self.mnc3.unwrap_or(15) * 16 + self.mcc3,
             self.mnc2 * 16 + self.mnc1,
         ]
     }
@@ -89,7 +82,7 @@ impl Lai {
 
     // The location area that five octets name, if its network is lawful and it is not none.
     pub fn from_octets(octets: [u8; 5]) -> Option<Lai>
-        ensures value { result ≡ lai_of (slice_index octets 0) (slice_index octets 1) (slice_index octets 2) (slice_index octets 3) (slice_index octets 4) }
+        ensures value { result ≡ lai_in octets }
     {
         let [a, b, c, d, e] = octets;
         let plmn = Plmn::from_octets([a, b, c])?;
@@ -99,7 +92,7 @@ impl Lai {
     // The octets of an area or of none; they read back as what they were written for.
     pub fn octets(area: Option<Lai>) -> [u8; 5]
         ensures value { result ≡ lai_octets area }
-        ensures back { lai_of (slice_index result 0) (slice_index result 1) (slice_index result 2) (slice_index result 3) (slice_index result 4) ≡ area }
+        ensures back { lai_in result ≡ area }
     {
         match area {
             Some(area) => area_octets(area),
@@ -119,7 +112,7 @@ fn area_octets(area: Lai) -> [u8; 5]
 impl Rai {
     // The routing area that six octets name, if its location area is one.
     pub fn from_octets(octets: [u8; 6]) -> Option<Rai>
-        ensures value { result ≡ rai_of (slice_index octets 0) (slice_index octets 1) (slice_index octets 2) (slice_index octets 3) (slice_index octets 4) (slice_index octets 5) }
+        ensures value { result ≡ rai_in octets }
     {
         let [a, b, c, d, e, rac] = octets;
         let lai = Lai::from_octets([a, b, c, d, e])?;
@@ -129,7 +122,7 @@ impl Rai {
     // The octets of an area or of none; they read back as what they were written for.
     pub fn octets(area: Option<Rai>) -> [u8; 6]
         ensures value { result ≡ rai_octets area }
-        ensures back { rai_of (slice_index result 0) (slice_index result 1) (slice_index result 2) (slice_index result 3) (slice_index result 4) (slice_index result 5) ≡ area }
+        ensures back { rai_in result ≡ area }
     {
         let (lai, rac) = match area {
             Some(area) => (Some(area.lai), area.rac),

@@ -1,7 +1,7 @@
 // How a refusal is told to the host: its number, the layer that refused, and the octet at fault.
 
 // The library that refused.
-#[derive(Clone, Copy)]
+#[derive(Clone, Copy, PartialEq, Eq)]
 pub enum Layer {
     Store,
     Frame,
@@ -9,7 +9,7 @@ pub enum Layer {
 }
 
 // Octets of a frame count from 1; the octet is 0 where the host's own call is at fault.
-#[derive(Clone, Copy)]
+#[derive(Clone, Copy, PartialEq, Eq)]
 pub struct Refusal {
     pub number: u8,
     pub layer: Layer,

@@ -1,60 +1,47 @@
-// When two places are the same.
-ghost use Rattle.std.specs.Prelude.{◌≡◌, ◌↔◌, IsTrue};
-ghost use Rattle.std.specs.Cmp.Rules.{comparing};
-ghost use Rattle.vocabulary.specs.Same.{same_third, same_plmn, same_lai};
+// What a list needs of the places on it.
+ghost use Rattle.std.specs.Prelude.{◌≡◌, Decides};
+ghost use Rattle.vocabulary.specs.Same.{no_plmn, no_lai};
+ghost use Rattle.vocabulary.specs.Told.{plmn_told, lai_told};
 
 use crate::{Lai, Plmn};
 
-fn same_third(one: Option<u8>, other: Option<u8>) -> bool
-    ensures { result ≡ same_third one other }
-{
-    match (one, other) {
-        (Some(one), Some(other)) => one == other,
-        (None, None) => true,
-        _ => false,
+// A place that may stand on a list. Its `==` tells exactly whether two are the same.
+pub trait Place: Eq + Copy {
+    ghost unused: { Self };
+
+    // What stands in a slot that has no entry.
+    fn unused() -> Self
+        ensures value { result ≡ unused };
+
+    ghost told: { (one other : Self) → Decides (Self.PartialEq.eq one other) (one ≡ other) };
+}
+
+impl Place for Plmn {
+    ghost unused = { no_plmn };
+
+    ghost told = { plmn_told };
+
+    fn unused() -> Plmn {
+        Plmn {
+            mcc1: 0,
+            mcc2: 0,
+            mcc3: 0,
+            mnc1: 0,
+            mnc2: 0,
+            mnc3: None,
+        }
     }
 }
 
-fn same_plmn(one: Plmn, other: Plmn) -> bool
-    ensures { result ≡ same_plmn one other }
-{
-    let third = same_third(one.mnc3, other.mnc3);
-    one.mcc1 == other.mcc1
-        && one.mcc2 == other.mcc2
-        && one.mcc3 == other.mcc3
-        && one.mnc1 == other.mnc1
-        && one.mnc2 == other.mnc2
-        && third
-}
+impl Place for Lai {
+    ghost unused = { no_lai };
 
-fn same_lai(one: Lai, other: Lai) -> bool
-    ensures { result ≡ same_lai one other }
-{
-    same_plmn(one.plmn, other.plmn) && one.lac == other.lac
-}
+    ghost told = { lai_told };
 
-impl PartialEq for Plmn {
-    ghost eq = { same_plmn };
-
-    ghost laws = { Prim.search comparing depth 12 };
-
-    fn eq(&self, other: &Plmn) -> bool
-        ensures value { result ≡ same_plmn self.now other.now }
-        ensures law { IsTrue result ↔ (self.now ≡ other.now) }
-    {
-        same_plmn(*self, *other)
-    }
-}
-
-impl PartialEq for Lai {
-    ghost eq = { same_lai };
-
-    ghost laws = { Prim.search comparing depth 12 };
-
-    fn eq(&self, other: &Lai) -> bool
-        ensures value { result ≡ same_lai self.now other.now }
-        ensures law { IsTrue result ↔ (self.now ≡ other.now) }
-    {
-        same_lai(*self, *other)
+    fn unused() -> Lai {
+        Lai {
+            plmn: Plmn::unused(),
+            lac: 0,
+        }
     }
 }

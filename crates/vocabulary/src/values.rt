@@ -3,7 +3,7 @@ ghost use Rattle.std.specs.Prelude.{◌≡◌, true};
 ghost use Rattle.vocabulary.specs.Marks.{lawful_plmn, lawful_lac};
 
 // A network: its country code (MCC) of three digits and its network code (MNC) of two or three.
-#[derive(Clone, Copy)]
+#[derive(Clone, Copy, PartialEq, Eq)]
 pub struct Plmn {
     pub mcc1: u8,
     pub mcc2: u8,
@@ -15,7 +15,7 @@ pub struct Plmn {
 }
 
 // A location area: a network and an area code (LAC).
-#[derive(Clone, Copy)]
+#[derive(Clone, Copy, PartialEq, Eq)]
 pub struct Lai {
     pub plmn: Plmn,
     pub lac: u16,
@@ -23,7 +23,7 @@ pub struct Lai {
 }
 
 // A routing area: a location area and a routing area code (RAC).
-#[derive(Clone, Copy)]
+#[derive(Clone, Copy, PartialEq, Eq)]
 pub struct Rai {
     pub lai: Lai,
     pub rac: u8,

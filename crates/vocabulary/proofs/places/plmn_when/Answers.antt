@@ -1,5 +1,6 @@
 use Rattle.std.proofs.Common.{sym}
-use Rattle.vocabulary.proofs.Makes.{plmn_made, plmn_refused}
+use Rattle.vocabulary.specs.Told.{plmn_made}
+use Rattle.vocabulary.proofs.Makes.{plmn_refused}
 use Rattle.vocabulary.proofs.places.plmn_when.Goals as goal
 
 pub returns-then-lawful_digits : goal.returns-then-lawful_digits

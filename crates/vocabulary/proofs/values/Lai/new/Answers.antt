@@ -1,5 +1,6 @@
 use Rattle.std.proofs.Common.{sym}
-use Rattle.vocabulary.proofs.Makes.{lai_made, lai_refused}
+use Rattle.vocabulary.specs.Told.{lai_made}
+use Rattle.vocabulary.proofs.Makes.{lai_refused}
 use Rattle.vocabulary.proofs.values.Lai.new.Goals as goal
 
 pub returns-then-lawful_lac : goal.returns-then-lawful_lac

@@ -1,9 +1,5 @@
-use Rattle.std.proofs.Common.{rules}
 use Rattle.vocabulary.proofs.Back.{plmn_back}
 use Rattle.vocabulary.proofs.values.Plmn.octets.Goals as goal
 
-pub returns : goal.returns
-returns c = record {
-  value = search rules;
-  back = rw c.third_half.ensures (plmn_back c.args.self);
-}
+pub returns-clause-back : goal.returns-clause-back
+returns-clause-back c = rw c.unwrap_or.ensures (plmn_back c.args.self)
