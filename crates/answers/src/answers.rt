@@ -28,7 +28,7 @@ pub fn frame_answer(octets: &[u8]) -> Answer
 {
     match frames::read(octets) {
         Ok(message) => Answer::Read(message),
-        Err(fault) => Answer::Refused(fault.refusal()),
+        Err(fault) => Answer::Refused(fault.into()),
     }
 }
 

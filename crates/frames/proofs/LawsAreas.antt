@@ -3,12 +3,11 @@ use Rattle.std.proofs.Common.{◌≡◌, ℕ, zero, suc, ◌+◌, ◌*◌, ◌/�
 use Rattle.std.proofs.lemmas.List.{drop_more}
 use Rattle.std.proofs.lemmas.Bool.{cond_both, eqb-true}
 use Rattle.vocabulary.specs.Marks.{lawful_plmn, lawful_lac}
-use Rattle.vocabulary.specs.Places.{third_half, third_of, plmn_octets, lai_octets, rai_octets, plmn_when, lai_when, plmn_of, lai_of, rai_of}
+use Rattle.vocabulary.specs.Places.{third_half, third_of, plmn_octets, lai_octets, rai_octets, plmn_when, lai_when, plmn_of, lai_of, rai_of, rai_in, lai_in}
 use Rattle.vocabulary.specs.declared.values.Lai.{Lai}
 use Rattle.vocabulary.specs.declared.values.Plmn.{Plmn}
 use Rattle.vocabulary.specs.declared.values.Rai.{Rai}
 use Rattle.vocabulary.proofs.Inversions.{when_some, then_some, mapped_some}
-use Rattle.frames.specs.Decoded.{area_in, lai_in}
 
 -- n octets from place k on
 abbrev pub from : ℕ → ℕ → List ℕ → List ℕ
@@ -57,5 +56,5 @@ module _ (k : ℕ) (xs : List ℕ) (octets : (i : ℕ) → get_or xs i 0 < 256) 
   pub lai_stands : (a : Lai) → k + 5 ≤ length xs → lai_in (from 5 k xs) ≡ Some a → lai_octets (Some a) ≡ take 5 (drop k xs)
   lai_stands a long e = five _ _ _ _ _ a (octets (k + 1 + 1 + 1)) (octets (k + 1 + 1 + 1 + 1)) e ∙ sym (take_from 5 k xs long)
 
-  pub rai_stands : (a : Rai) → k + 6 ≤ length xs → area_in (from 6 k xs) ≡ Some a → rai_octets (Some a) ≡ take 6 (drop k xs)
+  pub rai_stands : (a : Rai) → k + 6 ≤ length xs → rai_in (from 6 k xs) ≡ Some a → rai_octets (Some a) ≡ take 6 (drop k xs)
   rai_stands a long e = six _ _ _ _ _ _ a (octets (k + 1 + 1 + 1)) (octets (k + 1 + 1 + 1 + 1)) e ∙ sym (take_from 6 k xs long)

@@ -10,7 +10,8 @@ use Rattle.vocabulary.specs.declared.values.Rai.{Rai}
 use Rattle.identities.specs.declared.values.Signature.{Signature}
 use Rattle.identities.specs.declared.values.Tmsi.{Tmsi}
 use Rattle.frames.specs.Causes.{cause_of}
-use Rattle.frames.specs.Decoded.{accepted, area_in, lai_in, onward, framed, packet_accept, attach_accepted, attach_accept, attach_rejected, attach_reject, detach_accepted, detach_accept, update_accepted, update_accept, update_rejected, update_reject, location_accepted, location_accept, location_rejected, location_reject, begins, by_kind, decoded}
+use Rattle.vocabulary.specs.Places.{rai_in, lai_in}
+use Rattle.frames.specs.Decoded.{accepted, onward, framed, packet_accept, attach_accepted, attach_accept, attach_rejected, attach_reject, detach_accepted, detach_accept, update_accepted, update_accept, update_rejected, update_reject, location_accepted, location_accept, location_rejected, location_reject, begins, by_kind, decoded}
 use Rattle.frames.specs.Elements.{nothing, walk, judged, packet_found, packet_elements, circuit_found, circuit_elements}
 use Rattle.frames.specs.Laws.{NoMarks, NoMarkArea, NoMarkTmsi, NoMarkSignature, NoMarkIdentity, NoMarksPacket, AreaStands, Elements, PacketValues, CircuitValues, ValuesStand, Obeys, frame_kind, fixed_octets, side_of}
 use Rattle.frames.specs.declared.downlink.Downlink.{Downlink}
@@ -121,17 +122,17 @@ module _ (xs : List ℕ) (octets : (i : ℕ) → get_or xs i 0 < 256) (least : 2
 
   attach_accept_obeys : take 2 xs ≡ 0x08 ∷ 0x02 ∷ [] → IfOk (attach_accept xs) Lawful
   attach_accept_obeys kind =
-      framed_made Packet 11 xs (attach_accepted (get_or xs 2 0) (get_or xs 3 0) (area_in (from 6 5 xs))) Lawful
+      framed_made Packet 11 xs (attach_accepted (get_or xs 2 0) (get_or xs 3 0) (rai_in (from 6 5 xs))) Lawful
       (λ f long e. cond_both (eqb (get_or xs 2 0 % 16) 1) _ _ (λ r. IfOk r Lawful)
-      (λ _. accept_made AttachAccept (get_or xs 3 0) 6 (area_in (from 6 5 xs)) f Lawful
+      (λ _. accept_made AttachAccept (get_or xs 3 0) 6 (rai_in (from 6 5 xs)) f Lawful
       (λ a stands right. obeys (AttachAccept a) kind long (packet_after 11 f a.elements e right) (rai_stands 5 xs octets a.rai long stands)))
       (λ _. tt))
 
   update_accept_obeys : take 2 xs ≡ 0x08 ∷ 0x09 ∷ [] → IfOk (update_accept xs) Lawful
   update_accept_obeys kind =
-      framed_made Packet 10 xs (update_accepted (get_or xs 2 0) (get_or xs 3 0) (area_in (from 6 4 xs))) Lawful
+      framed_made Packet 10 xs (update_accepted (get_or xs 2 0) (get_or xs 3 0) (rai_in (from 6 4 xs))) Lawful
       (λ f long e. cond_both (eqb (get_or xs 2 0 / 16) 0) _ _ (λ r. IfOk r Lawful)
-      (λ _. accept_made UpdateAccept (get_or xs 3 0) 5 (area_in (from 6 4 xs)) f Lawful
+      (λ _. accept_made UpdateAccept (get_or xs 3 0) 5 (rai_in (from 6 4 xs)) f Lawful
       (λ a stands right. obeys (UpdateAccept a) kind long (packet_after 10 f a.elements e right) (rai_stands 4 xs octets a.rai long stands)))
       (λ _. tt))
 

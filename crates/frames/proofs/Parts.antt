@@ -2,7 +2,8 @@
 use Rattle.std.proofs.Common.{◌≡◌, ℕ, ◌+◌, ◌≤◌, ltb, List, length, get_or, take, Ok, Err, Result, sym, ◌∙◌, ap, arith}
 use Rattle.std.proofs.lemmas.Bool.{cond-false, cond_both, ltb-false}
 use Rattle.std.specs.List.{between}
-use Rattle.frames.specs.Decoded.{onward, framed, area_in, attach_accept, attach_accepted, update_accept, update_accepted}
+use Rattle.vocabulary.specs.Places.{rai_in}
+use Rattle.frames.specs.Decoded.{onward, framed, attach_accept, attach_accepted, update_accept, update_accepted}
 use Rattle.frames.specs.Elements.{nothing, walk}
 use Rattle.frames.specs.declared.downlink.Downlink.{Downlink}
 use Rattle.frames.specs.declared.faults.ElementFault.{ElementFault}
@@ -38,9 +39,9 @@ after_parts side n xs fixed found next =
 
 -- what follows on the parts of an accept is what the accept gives
 pub attach_parts : (xs fixed : List ℕ) (found : Found) → Parts Packet 11 xs fixed found
-    → attach_accept xs ≡ attach_accepted (get_or fixed 2 0) (get_or fixed 3 0) (area_in (from 6 5 fixed)) found
-attach_parts xs fixed found = after_parts Packet 11 xs fixed found (λ ys. attach_accepted (get_or ys 2 0) (get_or ys 3 0) (area_in (from 6 5 ys)))
+    → attach_accept xs ≡ attach_accepted (get_or fixed 2 0) (get_or fixed 3 0) (rai_in (from 6 5 fixed)) found
+attach_parts xs fixed found = after_parts Packet 11 xs fixed found (λ ys. attach_accepted (get_or ys 2 0) (get_or ys 3 0) (rai_in (from 6 5 ys)))
 
 pub update_parts : (xs fixed : List ℕ) (found : Found) → Parts Packet 10 xs fixed found
-    → update_accept xs ≡ update_accepted (get_or fixed 2 0) (get_or fixed 3 0) (area_in (from 6 4 fixed)) found
-update_parts xs fixed found = after_parts Packet 10 xs fixed found (λ ys. update_accepted (get_or ys 2 0) (get_or ys 3 0) (area_in (from 6 4 ys)))
+    → update_accept xs ≡ update_accepted (get_or fixed 2 0) (get_or fixed 3 0) (rai_in (from 6 4 fixed)) found
+update_parts xs fixed found = after_parts Packet 10 xs fixed found (λ ys. update_accepted (get_or ys 2 0) (get_or ys 3 0) (rai_in (from 6 4 ys)))

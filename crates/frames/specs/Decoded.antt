@@ -42,13 +42,6 @@ abbrev pub accepted : (PacketAccept → Downlink) → Result PacketAccept FrameF
 accepted frame (Ok accept) = Ok (frame accept)
 accepted frame (Err fault) = Err fault
 
--- the area that stands in octets
-abbrev pub area_in : List ℕ → Option Rai
-area_in xs = rai_of (slice_index xs 0) (slice_index xs 1) (slice_index xs 2) (slice_index xs 3) (slice_index xs 4) (slice_index xs 5)
-
-abbrev pub lai_in : List ℕ → Option Lai
-lai_in xs = lai_of (slice_index xs 0) (slice_index xs 1) (slice_index xs 2) (slice_index xs 3) (slice_index xs 4)
-
 -- the results that are read: GPRS only attached, routing area updated
 abbrev pub gprs_attached : ℕ
 gprs_attached = 1

@@ -9,10 +9,10 @@ use vocabulary::{Plmn, gprs_seconds};
 pub(crate) fn tmsi_value(value: &[u8]) -> Option<Tmsi>
     ensures { result ≡ tmsi_value value.now }
 {
-    let [0xf4, a, b, c, d] = value else {
+    let [0xf4, octets @ ..] = value else {
         return None;
     };
-    Tmsi::new(u32::from_be_bytes([*a, *b, *c, *d]))
+    Tmsi::from_octets(*octets.as_array()?)
 }
 
 pub(crate) fn identity_value(value: &[u8]) -> Option<MobileIdentity>
@@ -27,10 +27,7 @@ pub(crate) fn identity_value(value: &[u8]) -> Option<MobileIdentity>
 pub(crate) fn signature_value(value: &[u8]) -> Option<Signature>
     ensures { result ≡ signature_value value.now }
 {
-    let [a, b, c] = value else {
-        return None;
-    };
-    Signature::new(u32::from(*a) * 65536 + u32::from(*b) * 256 + u32::from(*c))
+    Signature::from_octets(*value.as_array()?)
 }
 
 pub(crate) fn timer_value(value: &[u8]) -> Option<u32>

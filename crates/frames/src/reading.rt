@@ -1,6 +1,7 @@
 // Reading the frames of the network: first whether the frame is whole, then its fixed fields, then its elements.
 ghost use Rattle.std.specs.Prelude.{◌≡◌, IfOk, Ok, Err, take};
-ghost use Rattle.frames.specs.Decoded.{area_in, framed, packet_accept, attach_accept, attach_reject, detach_accept, update_accept, update_reject, location_accept, location_reject, by_kind, decoded};
+ghost use Rattle.vocabulary.specs.Places.{rai_in};
+ghost use Rattle.frames.specs.Decoded.{framed, packet_accept, attach_accept, attach_reject, detach_accept, update_accept, update_reject, location_accept, location_reject, by_kind, decoded};
 ghost use Rattle.frames.specs.Laws.{WrongLength, Obeys};
 ghost use Rattle.frames.specs.declared.faults.FrameFault.TheVariants.{Length};
 
@@ -28,7 +29,7 @@ fn packet_accept(
     area: [u8; 6],
     at: usize,
 ) -> Result<PacketAccept, FrameFault>
-    ensures value { result ≡ packet_accept timer at (area_in area) found }
+    ensures value { result ≡ packet_accept timer at (rai_in area) found }
 {
     let Some(rai) = Rai::from_octets(area) else {
         return Err(FrameFault::BadValue(at));

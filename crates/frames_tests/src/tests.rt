@@ -1,13 +1,14 @@
 // A few of the edges; the many are the input of the program `edges`.
 use frames::{Downlink, FrameFault, MobileIdentity, read};
 use std::test::Fail;
+use vocabulary::Refusal;
 
 // The number and the octet of a refusal; 0 where the frame is read.
 fn refused(answer: Result<Downlink, FrameFault>) -> (u8, usize) {
     match answer {
         Ok(_) => (0, 0),
         Err(fault) => {
-            let refusal = fault.refusal();
+            let refusal = Refusal::from(fault);
             (refusal.number, refusal.octet)
         }
     }

@@ -7,7 +7,7 @@ use Rattle.vocabulary.specs.declared.values.Lai.{Lai}
 use Rattle.vocabulary.specs.declared.values.Rai.{Rai}
 use Rattle.identities.specs.declared.values.Signature.{Signature}
 use Rattle.identities.specs.declared.values.Tmsi.{Tmsi}
-use Rattle.frames.specs.Decoded as decoded
+use Rattle.vocabulary.specs.Places as places
 use Rattle.lines.specs.Spelling.{spelled}
 use Rattle.answers.specs.declared.asked.BadLine.{BadLine}
 
@@ -30,10 +30,10 @@ abbrev pub signature_in : List ℕ → Option Signature
 signature_in xs = sized 3 xs (signature_of (slice_index xs 0) (slice_index xs 1) (slice_index xs 2))
 
 abbrev pub rai_in : List ℕ → Option Rai
-rai_in xs = sized 6 xs (decoded.area_in xs)
+rai_in xs = sized 6 xs (places.rai_in xs)
 
 abbrev pub lai_in : List ℕ → Option Lai
-lai_in xs = sized 5 xs (decoded.lai_in xs)
+lai_in xs = sized 5 xs (places.lai_in xs)
 
 abbrev pub octet_in : List ℕ → Option ℕ
 octet_in xs = sized 1 xs (Some (slice_index xs 0))
