@@ -1,20 +1,19 @@
--- A message that is put together part after part.
-use Rattle.std.proofs.Common.{◌≡◌, ℕ, ◌≤◌, false, ltb, List, ◌++◌, length, drop, Ok, sym, ap, ◌∙◌, append_assoc, arith}
-use Rattle.std.proofs.lemmas.Bool.{cond-false, le-ltb}
-use Rattle.frames.specs.Written.{answered, over}
+-- Parts that stand one after the other, and whether they have room.
+use Rattle.std.proofs.Common.{◌≡◌, ℕ, ◌+◌, ◌<◌, ◌≤◌, cond, ltb, List, [], length, get_or, take, Bor, Ok, Err, Result, arith}
+use Rattle.std.proofs.lemmas.Bool.{cond_both, ltb-false}
+use Rattle.std.proofs.lemmas.List.Folds.{length-flat_map-take}
+use Rattle.frames.specs.Written.{joined}
+use Rattle.frames.specs.declared.uplink.WriteFault.{WriteFault}
+use Rattle.frames.specs.declared.uplink.WriteFault.TheVariants.{NoRoom}
 
-pub four_parts : (a b c d e p q r s : List ℕ) → b ≡ a ++ p → c ≡ b ++ q → d ≡ c ++ r → e ≡ d ++ s → e ≡ a ++ (p ++ (q ++ (r ++ s)))
-four_parts a b c d e p q r s first second third fourth =
-    fourth ∙ ap (λ l. l ++ s) (third ∙ ap (λ l. l ++ r) (second ∙ ap (λ l. l ++ q) first)) ∙ simp append_assoc
+-- the parts before one, and it, are no longer than all parts
+pub part_within : (parts : List (Bor (List ℕ))) (i : ℕ) → i < length parts
+    → length (joined (take i parts)) + length (get_or parts i (record { ref_ptr = (0, 0); now = [] })).now ≤ length (joined parts)
+part_within parts i h = length-flat_map-take (λ (part : Bor (List ℕ)). part.now) parts i (record { ref_ptr = (0, 0); now = [] }) h
 
--- the first n octets of an area, written over by a message of n octets
-module _ (m area copied : List ℕ) (n k : ℕ) (long : length m ≡ n) (same : copied ≡ m) (whole : k ≡ n) (room : n ≤ length area) where
-  fits : ltb (length area) (length m) ≡ false
-  fits = le-ltb _ _ (omega arith)
-
-  pub answered_room : Ok n ≡ answered m area
-  answered_room = ap Ok (sym long) ∙ sym (cond-false (ltb (length area) (length m)) _ _ fits)
-
-  pub over_room : copied ++ drop k area ≡ over m area
-  over_room =
-      (λ i. same i ++ drop ((whole ∙ sym long) i) area) ∙ sym (cond-false (ltb (length area) (length m)) _ _ fits)
+-- a message that is written has room
+pub room_for : (n m room : ℕ) → ◌≡◌ {A = Result ℕ WriteFault} (Ok n) (cond (ltb room m) (Err NoRoom) (Ok m)) → m ≤ room
+room_for n m room =
+    cond_both (ltb room m) _ _ (λ (r : Result ℕ WriteFault). ◌≡◌ {A = Result ℕ WriteFault} (Ok n) r → m ≤ room)
+    (λ short e. let never : ◌≡◌ {A = ℕ} 0 1 = cc in absurd (omega arith))
+    (λ fits e. ltb-false room m fits)

@@ -1,7 +1,6 @@
 pub mod Walks
 pub mod Parts
 pub mod Chains
-pub mod LawsWritten
 pub mod LawsAreas
 pub mod LawsElements
 pub mod LawsPlaces

@@ -1,6 +1,5 @@
 pub mod Causes
 pub mod Decoded
-pub mod Drafts
 pub mod Elements
 pub mod Examples
 pub mod Faults

@@ -7,6 +7,8 @@ use Rattle.identities.specs.declared.values.KeyNumber.{KeyNumber}
 use Rattle.vocabulary.specs.declared.values.Rai.{Rai}
 use Rattle.identities.specs.declared.values.Signature.{Signature}
 use Rattle.identities.specs.declared.values.Tmsi.{Tmsi}
+use Rattle.frames.specs.declared.fields.RequestType.{RequestType}
+use Rattle.frames.specs.declared.fields.RequestType.TheVariants.{Attach, Routing, Location}
 use Rattle.frames.specs.declared.terminal.Terminal.{Terminal}
 use Rattle.frames.specs.declared.uplink.DetachType.{DetachType}
 use Rattle.frames.specs.declared.uplink.DetachType.TheVariants as detach
@@ -35,6 +37,12 @@ detach_type detach.SwitchOff = 9
 -- an attach is for GPRS alone
 abbrev pub attach_type : ℕ
 attach_type = 1
+
+-- the type that shares its octet with the key number
+abbrev pub request_type : RequestType → ℕ
+request_type Attach = attach_type
+request_type (Routing update) = routing_type update
+request_type (Location update) = location_type update
 
 -- the key number in the high half, the type in the low half
 abbrev pub key_and_type : Option KeyNumber → ℕ → ℕ

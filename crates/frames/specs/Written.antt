@@ -1,5 +1,7 @@
 -- What a writer answers, and what it leaves in the area that it was lent.
 use Rattle.std.specs.Prelude.{ℕ, cond, List, ◌++◌, length, drop, Ok, Err, Result, nat_lt}
+use Rattle.std.specs.Borrow.{Bor}
+use Rattle.std.specs.List.{flat_map}
 use Rattle.frames.specs.declared.uplink.WriteFault.{WriteFault}
 use Rattle.frames.specs.declared.uplink.WriteFault.TheVariants.{NoRoom}
 
@@ -10,3 +12,7 @@ answered message area = cond (nat_lt (length area) (length message)) (Err NoRoom
 -- the message, and after it what stood there; all that stood there where there is no room
 abbrev pub over : List ℕ → List ℕ → List ℕ
 over message area = cond (nat_lt (length area) (length message)) area (message ++ drop (length message) area)
+
+-- the octets of parts that are lent, one part after the other
+abbrev pub joined : List (Bor (List ℕ)) → List ℕ
+joined parts = flat_map (λ part. part.now) parts

@@ -3,12 +3,13 @@
 
 mod causes;
 mod downlink;
-mod draft;
 mod element_values;
 mod elements;
 mod examples;
 mod faults;
+mod fields;
 mod found;
+mod put;
 mod reading;
 mod tags;
 mod terminal;
