@@ -11,7 +11,7 @@ use Rattle.identities.specs.declared.values.Signature.{Signature}
 use Rattle.identities.specs.declared.values.Tmsi.{Tmsi}
 use Rattle.frames.specs.Causes.{cause_of}
 use Rattle.vocabulary.specs.Places.{rai_in, lai_in}
-use Rattle.frames.specs.Decoded.{accepted, onward, framed, packet_accept, attach_accepted, attach_accept, attach_rejected, attach_reject, detach_accepted, detach_accept, update_accepted, update_accept, update_rejected, update_reject, location_accepted, location_accept, location_rejected, location_reject, begins, by_kind, decoded}
+use Rattle.frames.specs.Decoded.{accepted, onward, framed, packet_accept, attach_accepted, attach_accept, attach_rejected, attach_reject, detach_accepted, detach_accept, update_accepted, update_accept, update_rejected, update_reject, location_accepted, location_accept, location_rejected, location_reject, begins, by_kind}
 use Rattle.frames.specs.Elements.{nothing, walk, judged, packet_found, packet_elements, circuit_found, circuit_elements}
 use Rattle.frames.specs.Laws.{NoMarks, NoMarkArea, NoMarkTmsi, NoMarkSignature, NoMarkIdentity, NoMarksPacket, AreaStands, Elements, PacketValues, CircuitValues, ValuesStand, Obeys, frame_kind, fixed_octets, side_of}
 use Rattle.frames.specs.declared.downlink.Downlink.{Downlink}

@@ -1,16 +1,14 @@
 -- A frame that is taken apart into its fixed octets and what its elements gave.
-use Rattle.std.proofs.Common.{◌≡◌, ℕ, ◌+◌, ◌≤◌, ltb, List, length, get_or, take, Ok, Err, Result, sym, ◌∙◌, ap, arith}
+use Rattle.std.proofs.Common.{◌≡◌, ℕ, ◌+◌, ◌≤◌, ltb, List, length, take, Ok, Err, Result, sym, ◌∙◌, ap, arith}
 use Rattle.std.proofs.lemmas.Bool.{cond-false, cond_both, ltb-false}
 use Rattle.std.specs.List.{between}
-use Rattle.vocabulary.specs.Places.{rai_in}
-use Rattle.frames.specs.Decoded.{onward, framed, attach_accept, attach_accepted, update_accept, update_accepted}
+use Rattle.frames.specs.Decoded.{onward, framed}
 use Rattle.frames.specs.Elements.{nothing, walk}
 use Rattle.frames.specs.declared.downlink.Downlink.{Downlink}
 use Rattle.frames.specs.declared.faults.ElementFault.{ElementFault}
 use Rattle.frames.specs.declared.faults.FrameFault.{FrameFault}
 use Rattle.frames.specs.declared.found.Found.{Found}
 use Rattle.frames.specs.declared.tags.Side.{Side}
-use Rattle.frames.specs.declared.tags.Side.TheVariants.{Packet}
 use Rattle.frames.proofs.LawsAreas.{from, take_from}
 
 abbrev Taken : Type 0
@@ -26,7 +24,8 @@ onward_next (Err e) xs ys found next h = cc
 onward_next (Ok f) xs ys found next h =
     let same : ◌≡◌ {A = List ℕ × Found} (ys, f) (xs, found) = cc in ap (λ (p : List ℕ × Found). next p.0 p.1) same
 
-after_parts : (side : Side) (n : ℕ) (xs fixed : List ℕ) (found : Found) (next : List ℕ → Found → Result Downlink FrameFault)
+-- what follows on the parts of a frame is what the frame gives
+pub after_parts : (side : Side) (n : ℕ) (xs fixed : List ℕ) (found : Found) (next : List ℕ → Found → Result Downlink FrameFault)
     → Parts side n xs fixed found → framed side n xs (next (from n 0 xs)) ≡ next fixed found
 after_parts side n xs fixed found next =
     cond_both (ltb (length xs) n) _ _ (λ (r : Taken). ◌≡◌ {A = Taken} (Ok (fixed, found)) r → framed side n xs (next (from n 0 xs)) ≡ next fixed found)
@@ -36,12 +35,3 @@ after_parts side n xs fixed found next =
     cond-false (ltb (length xs) n) _ _ fits
     ∙ ap (λ ys. onward (walk side nothing (n + 1) (between n (length xs) xs) 0) (next ys)) (sym (take_from n 0 xs (omega arith)))
     ∙ onward_next (walk side nothing (n + 1) (between n (length xs) xs) 0) fixed (take n xs) found next h)
-
--- what follows on the parts of an accept is what the accept gives
-pub attach_parts : (xs fixed : List ℕ) (found : Found) → Parts Packet 11 xs fixed found
-    → attach_accept xs ≡ attach_accepted (get_or fixed 2 0) (get_or fixed 3 0) (rai_in (from 6 5 fixed)) found
-attach_parts xs fixed found = after_parts Packet 11 xs fixed found (λ ys. attach_accepted (get_or ys 2 0) (get_or ys 3 0) (rai_in (from 6 5 ys)))
-
-pub update_parts : (xs fixed : List ℕ) (found : Found) → Parts Packet 10 xs fixed found
-    → update_accept xs ≡ update_accepted (get_or fixed 2 0) (get_or fixed 3 0) (rai_in (from 6 4 fixed)) found
-update_parts xs fixed found = after_parts Packet 10 xs fixed found (λ ys. update_accepted (get_or ys 2 0) (get_or ys 3 0) (rai_in (from 6 4 ys)))

@@ -1,4 +1,3 @@
-use Rattle.std.proofs.Common.{arith}
 use Rattle.frames.proofs.LawsRead.{read_obeys}
 use Rattle.frames.proofs.reading.read.Goals as goal
 
