@@ -1,7 +1,8 @@
 -- A list of networks that is read out of octets is coded by the same octets.
-use Rattle.std.proofs.Common.{◌≡◌, ℕ, zero, suc, ◌+◌, ◌-◌, ◌*◌, ◌/◌, ◌%◌, ◌<◌, ◌≤◌, ◌&&◌, eqb, ltb, List, [], ◌∷◌, ◌++◌, map, length, get_or, drop, replicate, Some, None, Option, sym, refl, ap, ◌∙◌, arith}
-use Rattle.std.proofs.lemmas.List.{drop_all, drop_more}
-use Rattle.std.proofs.lemmas.Bool.{cond-true, cond-false, ltb-true, eqb-true, lt-ltb, le-ltb, and_parts}
+use Rattle.std.proofs.Common.{◌≡◌, ℕ, zero, suc, ◌+◌, ◌-◌, ◌*◌, ◌/◌, ◌%◌, ◌<◌, ◌≤◌, ◌&&◌, eqb, ltb, List, [], ◌∷◌, ◌++◌, map, length, get_or, take, drop, replicate, Some, None, Option, sym, refl, ap, ◌∙◌, append_assoc, append-nil, arith}
+use Rattle.std.proofs.lemmas.List.{drop_all, drop_more, take_all, take_more_set}
+use Rattle.std.proofs.Math.ListN.{set}
+use Rattle.std.proofs.lemmas.Bool.{cond-true, cond-false, ltb-true, eqb-true, lt-ltb, le-ltb, and_parts, and_from}
 use Rattle.std.specs.Option.{option_map}
 use Rattle.std.specs.List.{flat_map}
 use Rattle.vocabulary.specs.Made.{then}
@@ -16,9 +17,38 @@ use Rattle.frames.proofs.LawsCodes.{cond_some}
 use Rattle.frames.proofs.LawsElements.{Octets}
 
 -- n entries from place k on, one after the other
-abbrev chain : ℕ → ℕ → List ℕ → (List (Option Plmn) → PlmnList) → Option PlmnList
+abbrev pub chain : ℕ → ℕ → List ℕ → (List (Option Plmn) → PlmnList) → Option PlmnList
 chain zero k v make = Some (make [])
 chain (suc n) k v make = then (entry v k) (λ a. chain n (k + 1) v (λ ps. make (a ∷ ps)))
+
+-- a place is filled by its entry
+pub chain_more : (n k : ℕ) (v : List ℕ) (make : List (Option Plmn) → PlmnList) (es : List (Option Plmn)) (a : Option Plmn) → k < length es → n ≡ 5 - k → k < 5 → entry v k ≡ Some a
+    → chain n k v (λ ps. make (take k es ++ ps)) ≡ chain (5 - (k + 1)) (k + 1) v (λ ps. make (take (k + 1) (set es k a) ++ ps))
+chain_more n k v make es a within left few e =
+    let one : n ≡ suc (5 - (k + 1)) = omega arith in
+    let put : (ps : List (Option Plmn)) → take k es ++ a ∷ ps ≡ take (k + 1) (set es k a) ++ ps =
+    λ ps. sym (append_assoc (take k es) (a ∷ []) ps) ∙ ap (λ xs. xs ++ ps) (sym (take_more_set es k a within)) in
+    ap (λ m. chain m k v (λ ps. make (take k es ++ ps))) one
+    ∙ ap (λ o. then o (λ b. chain (5 - (k + 1)) (k + 1) v (λ ps. make (take k es ++ b ∷ ps)))) e
+    ∙ (λ i. chain (5 - (k + 1)) (k + 1) v (λ ps. make (put ps i)))
+
+-- a bad entry refuses the list
+pub chain_refused : (n k : ℕ) (v : List ℕ) (make : List (Option Plmn) → PlmnList) → 0 < n → entry v k ≡ None → chain n k v make ≡ None
+chain_refused zero k v make some e = absurd (omega arith)
+chain_refused (suc n) k v make some e = ap (λ o. then o (λ a. chain n (k + 1) v (λ ps. make (a ∷ ps)))) e
+
+-- all places are filled by their entries
+pub chain_full : (k : ℕ) (v : List ℕ) (make : List (Option Plmn) → PlmnList) (es : List (Option Plmn)) → length es ≡ 5 → 5 ≤ k → chain (5 - k) k v (λ ps. make (take k es ++ ps)) ≡ Some (make es)
+chain_full k v make es long past =
+    let none_left : 5 - k ≡ 0 = omega arith in
+    ap (λ m. chain m k v (λ ps. make (take k es ++ ps))) none_left
+    ∙ ap (λ xs. Some (make xs)) (append-nil (take k es) ∙ take_all k es (omega arith))
+
+-- a list of one to five networks is what its entries are
+pub listed : (v : List ℕ) → 0 < length v → length v < 16 → length v % 3 ≡ 0 → plmns_value v ≡ chain 5 0 v (λ ps. record { entries = ps })
+listed v some few threes =
+    cond-true (ltb 0 (length v) && (ltb (length v) 16 && eqb (length v % 3) 0)) _ _
+    (and_from _ _ (lt-ltb _ _ some) (and_from _ _ (lt-ltb _ _ few) (ap (λ n. eqb n 0) threes)))
 
 -- what those entries are
 abbrev Each : ℕ → ℕ → List ℕ → List (Option Plmn) → Type 0

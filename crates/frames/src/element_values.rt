@@ -59,12 +59,9 @@ pub(crate) fn plmns_value(value: &[u8]) -> Option<PlmnList>
     if value.len() == 0 || value.len() > 15 || value.len() % 3 != 0 {
         return None;
     }
-    let first = entry_at(value, 0)?;
-    let second = entry_at(value, 1)?;
-    let third = entry_at(value, 2)?;
-    let fourth = entry_at(value, 3)?;
-    let fifth = entry_at(value, 4)?;
-    Some(PlmnList {
-        entries: [first, second, third, fourth, fifth],
-    })
+    let mut entries = [None; 5];
+    for (place, entry) in entries.iter_mut().enumerate() {
+        *entry = entry_at(value, place)?;
+    }
+    Some(PlmnList { entries })
 }

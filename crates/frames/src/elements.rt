@@ -4,7 +4,8 @@ ghost use Rattle.frames.specs.Elements.{nothing, walk};
 
 use crate::ElementFault;
 use crate::found::Found;
-use crate::tags::{Side, Span, meaning, span_of};
+use crate::tags::{Side, meaning, span_of};
+use std::ops::Range;
 
 // What is found in the elements after the fixed octets of a frame, or the octet at which it is cut short.
 pub(crate) fn walk(side: Side, frame: &[u8], fixed: usize) -> Result<Found, ElementFault>
@@ -14,13 +15,13 @@ pub(crate) fn walk(side: Side, frame: &[u8], fixed: usize) -> Result<Found, Elem
     let mut found = Found::nothing();
     let mut rest = &frame[fixed..];
     while let [tag, after @ ..] = rest {
-        let Span { from, to } = span_of(side, *tag, after);
-        if to > after.len() {
+        let Range { start, end } = span_of(side, *tag, after);
+        if end > after.len() {
             return Err(ElementFault::Cut(frame.len() + 1));
         }
         let at = frame.len() - after.len();
-        found.note(meaning(side, *tag), &after[from..to], at);
-        rest = &after[to..];
+        found.note(meaning(side, *tag), &after[start..end], at);
+        rest = &after[end..];
     }
     Ok(found)
 }

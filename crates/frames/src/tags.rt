@@ -2,6 +2,8 @@
 ghost use Rattle.std.specs.Prelude.{◌≡◌, ◌≤◌, slice_index};
 ghost use Rattle.frames.specs.Tags.{layout_of, meaning, begin, end};
 
+use std::ops::Range;
+
 // The two sides of registration.
 #[derive(Clone, Copy, PartialEq, Eq, Debug)]
 pub(crate) enum Side {
@@ -58,31 +60,19 @@ pub(crate) fn meaning(side: Side, tag: u8) -> Known
 fn length_octet(after: &[u8]) -> u8
     ensures { result ≡ slice_index after.now 0 }
 {
-    if after.is_empty() { 0 } else { after[0] }
+    after.first().copied().unwrap_or(0)
 }
 
 // Where the value of an element begins and ends, counted from the octet after the tag.
-#[derive(Clone, Copy)]
-pub(crate) struct Span {
-    pub from: usize,
-    pub to: usize,
-}
-
-pub(crate) fn span_of(side: Side, tag: u8, after: &[u8]) -> Span
-    ensures from { result.from ≡ begin (layout_of side tag) }
-    ensures to { result.to ≡ end (layout_of side tag) after.now }
-    ensures ordered { result.from ≤ result.to }
-    ensures bound { result.to ≤ 256 }
+pub(crate) fn span_of(side: Side, tag: u8, after: &[u8]) -> Range<usize>
+    ensures from { result.start ≡ begin (layout_of side tag) }
+    ensures to { result.end ≡ end (layout_of side tag) after.now }
+    ensures ordered { result.start ≤ result.end }
+    ensures bound { result.end ≤ 256 }
 {
     match layout_of(side, tag) {
-        Layout::Alone => Span { from: 0, to: 0 },
-        Layout::Fixed(octets) => Span {
-            from: 0,
-            to: octets,
-        },
-        Layout::Lengthed => Span {
-            from: 1,
-            to: 1 + usize::from(length_octet(after)),
-        },
+        Layout::Alone => 0..0,
+        Layout::Fixed(octets) => 0..octets,
+        Layout::Lengthed => 1..1 + usize::from(length_octet(after)),
     }
 }
