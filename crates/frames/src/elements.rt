@@ -12,7 +12,7 @@ pub(crate) fn walk(side: Side, frame: &[u8], fixed: usize) -> Result<Found, Elem
     requires { fixed ≤ length frame.now }
     ensures value { result ≡ walk side nothing (fixed + 1) (drop fixed frame.now) 0 }
 {
-    let mut found = Found::nothing();
+    let mut found = Found::default();
     let mut rest = &frame[fixed..];
     while let [tag, after @ ..] = rest {
         let Range { start, end } = span_of(side, *tag, after);

@@ -1,7 +1,7 @@
 // What the walk over the elements has found so far.
 ghost use Rattle.std.specs.Prelude.{◌≡◌};
 ghost use Rattle.std.specs.Option.{option_or};
-ghost use Rattle.frames.specs.Elements.{nothing, blame, noted, judged, packet_found, circuit_found};
+ghost use Rattle.frames.specs.Elements.{blame, noted, judged, packet_found, circuit_found};
 
 use crate::element_values::{
     identity_value, plmns_value, signature_value, timer_value, tmsi_value,
@@ -10,7 +10,7 @@ use crate::tags::Known;
 use crate::{CircuitElements, ElementFault, MobileIdentity, PacketElements, PlmnList};
 use identities::{Signature, Tmsi};
 
-#[derive(Clone, Copy)]
+#[derive(Clone, Copy, Default)]
 pub(crate) struct Found {
     pub signature: Option<Signature>,
     pub p_tmsi: Option<Tmsi>,
@@ -38,20 +38,6 @@ fn note<T: Drop>(first: &mut Option<T>, new: Option<T>, bad: &mut Option<usize>,
 }
 
 impl Found {
-    pub(crate) fn nothing() -> Found
-        ensures value { result ≡ nothing }
-    {
-        Found {
-            signature: None,
-            p_tmsi: None,
-            t3302: None,
-            identity: None,
-            equivalents: None,
-            bad: None,
-            low: None,
-        }
-    }
-
     // Looks at the element whose tag stands at an octet.
     pub(crate) fn note(&mut self, known: Known, value: &[u8], at: usize)
         ensures after { self.new ≡ noted known self.old value.now at }

@@ -6,6 +6,7 @@ ghost use Rattle.frames.specs.declared.uplink.WriteFault.TheVariants.{NoRoom};
 use crate::WriteFault;
 
 // The octets of all parts, where there is room for them.
+#[tactic(auto, using(crate::proofs::Chains::part_within))]
 fn len_within(parts: &[&[u8]], room: usize) -> Result<usize, WriteFault>
     ensures value { result ≡ cond (nat_lt room (length (joined parts.now))) (Err NoRoom) (Ok (length (joined parts.now))) }
 {
@@ -20,6 +21,7 @@ fn len_within(parts: &[&[u8]], room: usize) -> Result<usize, WriteFault>
 }
 
 // Writes the parts and answers their length; every later octet stays as it was, and all do where there is no room.
+#[tactic(auto, using(crate::proofs::Chains::part_within, crate::proofs::Chains::room_for))]
 pub(crate) fn put(parts: &[&[u8]], area: &mut [u8]) -> Result<usize, WriteFault>
     ensures value { result ≡ answered (joined parts.now) area.old }
     ensures after { area.new ≡ over (joined parts.now) area.old }

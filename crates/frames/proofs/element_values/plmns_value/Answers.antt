@@ -1,5 +1,4 @@
 use Rattle.std.proofs.Common.{◌≡◌, ◌∙◌, None, sym, rules, refl, arith, length-set}
-use Rattle.frames.specs.Values.{plmns_value}
 use Rattle.frames.proofs.LawsPlmns.{listed, chain_more, chain_refused, chain_full}
 use Rattle.frames.proofs.element_values.plmns_value.Goals as goal
 
