@@ -110,8 +110,7 @@ module _ (side : Side) (g : Found) (P : Found → List ℕ → Type 0) (done : P
       elim (cases_Bool (ltb (length ys) past)) [
         | inl cut ↦
             let clash : Err (Cut (at + length ys + 1)) ≡ Ok g = sym (cond-true (ltb (length ys) past) _ _ cut) ∙ e in
-            let z : ◌≡◌ {A = ℕ} 0 1 = cc in
-            absurd (omega arith)
+            cc
         | inr fits ↦
             let within = ltb-false _ _ fits in
             let rest = sym (walk_past side found (at + 1) ys past within) ∙ (sym (cond-false (ltb (length ys) past) _ _ fits) ∙ e) in
@@ -125,8 +124,8 @@ module _ (side : Side) (g : Found) (P : Found → List ℕ → Type 0) (done : P
 
 -- an octet that is noted is not forgotten
 pub blamed : (old : Option ℕ) (at : ℕ) → option_or old (Some at) ≡ None → ⊥
-blamed None at e = let z : ◌≡◌ {A = ℕ} 0 1 = cc in omega arith
-blamed (Some x) at e = let z : ◌≡◌ {A = ℕ} 0 1 = cc in omega arith
+blamed None at e = cc
+blamed (Some x) at e = cc
 
 pub whole_elements : (side : Side) (g : Found) (at : ℕ) (xs : List ℕ) → Octets xs → g.low ≡ None → walk side nothing at xs 0 ≡ Ok g → Elements side xs
 whole_elements side g at xs octets clean e =

@@ -1,5 +1,5 @@
 -- What is read out of a frame obeys the layout.
-use Rattle.std.proofs.Common.{◌≡◌, ℕ, ◌+◌, ◌/◌, ◌%◌, ◌<◌, ◌≤◌, true, cond, eqb, ltb, List, [], ◌∷◌, length, get_or, take, drop, IfOk, Some, None, Ok, Err, Option, Result, sym, refl, ◌∙◌, subst, arith, w8, Fits}
+use Rattle.std.proofs.Common.{◌≡◌, ℕ, ◌+◌, ◌/◌, ◌%◌, ◌<◌, ◌≤◌, Bool, true, cond, eqb, ltb, List, [], ◌∷◌, length, get_or, take, drop, IfOk, Some, None, Ok, Err, Option, Result, sym, refl, ◌∙◌, subst, arith, w8, Fits}
 use Rattle.std.proofs.lemmas.List.{take_rest}
 use Rattle.std.proofs.lemmas.Bool.{cond_both, ltb-false, eqb-true, and_parts}
 use Rattle.std.proofs.lemmas.Bool.Decides.{nat_tests}
@@ -10,8 +10,8 @@ use Rattle.vocabulary.specs.declared.values.Rai.{Rai}
 use Rattle.identities.specs.declared.values.Signature.{Signature}
 use Rattle.identities.specs.declared.values.Tmsi.{Tmsi}
 use Rattle.frames.specs.Causes.{cause_of}
-use Rattle.vocabulary.specs.Places.{rai_in, lai_in}
-use Rattle.frames.specs.Decoded.{accepted, onward, framed, packet_accept, attach_accepted, attach_accept, attach_rejected, attach_reject, detach_accepted, detach_accept, update_accepted, update_accept, update_rejected, update_reject, location_accepted, location_accept, location_rejected, location_reject, begins, by_kind}
+use Rattle.vocabulary.specs.Places.{rai_in, lai_in, rai_octets}
+use Rattle.frames.specs.Decoded.{accepted, onward, framed, packet_accept, attach_accept, attach_reject, detach_accept, update_accept, update_reject, location_accepted, location_accept, location_rejected, location_reject, begins, by_kind}
 use Rattle.frames.specs.Elements.{nothing, walk, judged, packet_found, packet_elements, circuit_found, circuit_elements}
 use Rattle.frames.specs.Laws.{NoMarks, NoMarkArea, NoMarkTmsi, NoMarkSignature, NoMarkIdentity, NoMarksPacket, AreaStands, Elements, PacketValues, CircuitValues, ValuesStand, Obeys, frame_kind, fixed_octets, side_of}
 use Rattle.frames.specs.declared.downlink.Downlink.{Downlink}
@@ -23,6 +23,7 @@ use Rattle.frames.specs.declared.downlink.PacketAccept.{PacketAccept}
 use Rattle.frames.specs.declared.downlink.PacketElements.{PacketElements}
 use Rattle.frames.specs.declared.faults.ElementFault.{ElementFault}
 use Rattle.frames.specs.declared.faults.FrameFault.{FrameFault}
+use Rattle.frames.specs.declared.faults.FrameFault.TheVariants.{BadValue}
 use Rattle.frames.specs.declared.found.Found.{Found}
 use Rattle.frames.specs.declared.tags.Side.{Side}
 use Rattle.frames.specs.declared.tags.Side.TheVariants.{Packet, Circuit}
@@ -67,8 +68,8 @@ first_two a b xs h e =
     take_from 2 0 xs h ∙ (λ k. one k ∷ two k ∷ [])
 
 judged_right : {X : Type 0} (bad low : Option ℕ) (x y : X) → judged bad low x ≡ Ok y → (bad ≡ None) × (low ≡ None) × (x ≡ y)
-judged_right (Some at) low x y e = let z : ◌≡◌ {A = ℕ} 0 1 = cc in absurd (omega arith)
-judged_right None (Some at) x y e = let z : ◌≡◌ {A = ℕ} 0 1 = cc in absurd (omega arith)
+judged_right (Some at) low x y e = cc
+judged_right None (Some at) x y e = cc
 judged_right None None x y e = (refl, refl, cc)
 
 onward_made : {X Y : Type 0} (r : Result X ElementFault) (next : X → Result Y FrameFault) (P : Y → Type 0)
@@ -120,39 +121,40 @@ module _ (xs : List ℕ) (octets : (i : ℕ) → get_or xs i 0 < 256) (least : 2
       let small = octets_drop n xs octets in
       (whole_elements Circuit f (n + 1) (drop n xs) small told.1 e, circuit_values f es (n + 1) (drop n xs) told.2 small told.0 e)
 
+  -- an accept whose result is right, with its area at place k
+  accept_obeys : (n k timer at : ℕ) (right : Bool) (message : PacketAccept → Downlink) → k + 6 ≤ n
+      → ((a : PacketAccept) → n ≤ length xs → Elements Packet (drop n xs) × PacketValues a.elements (drop n xs) → rai_octets (Some a.rai) ≡ take 6 (drop k xs) → Obeys (message a) xs)
+      → IfOk (framed Packet n xs (λ f. cond right (accepted message (packet_accept timer at (rai_in (from 6 k xs)) f)) (Err (BadValue 3)))) Lawful
+  accept_obeys n k timer at right message within made =
+      framed_made Packet n xs (λ f. cond right (accepted message (packet_accept timer at (rai_in (from 6 k xs)) f)) (Err (BadValue 3))) Lawful
+      (λ f long e. cond_both right _ _ (λ r. IfOk r Lawful)
+      (λ _. accept_made message timer at (rai_in (from 6 k xs)) f Lawful
+      (λ a stands right. made a long (packet_after n f a.elements e right) (rai_stands k xs octets a.rai (omega arith) stands)))
+      (λ _. tt))
+
   attach_accept_obeys : take 2 xs ≡ 0x08 ∷ 0x02 ∷ [] → IfOk (attach_accept xs) Lawful
   attach_accept_obeys kind =
-      framed_made Packet 11 xs (attach_accepted (get_or xs 2 0) (get_or xs 3 0) (rai_in (from 6 5 xs))) Lawful
-      (λ f long e. cond_both (eqb (get_or xs 2 0 % 16) 1) _ _ (λ r. IfOk r Lawful)
-      (λ _. accept_made AttachAccept (get_or xs 3 0) 6 (rai_in (from 6 5 xs)) f Lawful
-      (λ a stands right. obeys (AttachAccept a) kind long (packet_after 11 f a.elements e right) (rai_stands 5 xs octets a.rai long stands)))
-      (λ _. tt))
+      accept_obeys 11 5 (get_or xs 3 0) 6 (eqb (get_or xs 2 0 % 16) 1) AttachAccept (omega arith) (λ a long after area. obeys (AttachAccept a) kind long after area)
 
   update_accept_obeys : take 2 xs ≡ 0x08 ∷ 0x09 ∷ [] → IfOk (update_accept xs) Lawful
   update_accept_obeys kind =
-      framed_made Packet 10 xs (update_accepted (get_or xs 2 0) (get_or xs 3 0) (rai_in (from 6 4 xs))) Lawful
-      (λ f long e. cond_both (eqb (get_or xs 2 0 / 16) 0) _ _ (λ r. IfOk r Lawful)
-      (λ _. accept_made UpdateAccept (get_or xs 3 0) 5 (rai_in (from 6 4 xs)) f Lawful
-      (λ a stands right. obeys (UpdateAccept a) kind long (packet_after 10 f a.elements e right) (rai_stands 4 xs octets a.rai long stands)))
-      (λ _. tt))
+      accept_obeys 10 4 (get_or xs 3 0) 5 (eqb (get_or xs 2 0 / 16) 0) UpdateAccept (omega arith) (λ a long after area. obeys (UpdateAccept a) kind long after area)
+
+  -- a message whose fixed octets are followed by the elements of the packet side
+  packet_obeys : (n : ℕ) (message : PacketElements → Downlink) → ((es : PacketElements) → n ≤ length xs → Elements Packet (drop n xs) × PacketValues es (drop n xs) → Obeys (message es) xs)
+      → IfOk (framed Packet n xs (λ f. onward (packet_elements f) (λ es. Ok (message es)))) Lawful
+  packet_obeys n message made =
+      framed_made Packet n xs (λ f. onward (packet_elements f) (λ es. Ok (message es))) Lawful
+      (λ f long e. onward_made (packet_elements f) (λ es. Ok (message es)) Lawful (λ es right. made es long (packet_after n f es e right)))
 
   attach_reject_obeys : take 2 xs ≡ 0x08 ∷ 0x04 ∷ [] → IfOk (attach_reject xs) Lawful
-  attach_reject_obeys kind =
-      framed_made Packet 3 xs (attach_rejected (get_or xs 2 0)) Lawful
-      (λ f long e. onward_made (packet_elements f) (λ es. Ok (AttachReject (cause_of (get_or xs 2 0)) es)) Lawful
-      (λ es right. obeys (AttachReject (cause_of (get_or xs 2 0)) es) kind long (packet_after 3 f es e right) tt))
+  attach_reject_obeys kind = packet_obeys 3 (AttachReject (cause_of (get_or xs 2 0))) (λ es long after. obeys (AttachReject (cause_of (get_or xs 2 0)) es) kind long after tt)
 
   update_reject_obeys : take 2 xs ≡ 0x08 ∷ 0x0b ∷ [] → IfOk (update_reject xs) Lawful
-  update_reject_obeys kind =
-      framed_made Packet 4 xs (update_rejected (get_or xs 2 0)) Lawful
-      (λ f long e. onward_made (packet_elements f) (λ es. Ok (UpdateReject (cause_of (get_or xs 2 0)) es)) Lawful
-      (λ es right. obeys (UpdateReject (cause_of (get_or xs 2 0)) es) kind long (packet_after 4 f es e right) tt))
+  update_reject_obeys kind = packet_obeys 4 (UpdateReject (cause_of (get_or xs 2 0))) (λ es long after. obeys (UpdateReject (cause_of (get_or xs 2 0)) es) kind long after tt)
 
   detach_accept_obeys : take 2 xs ≡ 0x08 ∷ 0x06 ∷ [] → IfOk (detach_accept xs) Lawful
-  detach_accept_obeys kind =
-      framed_made Packet 3 xs detach_accepted Lawful
-      (λ f long e. onward_made (packet_elements f) (λ es. Ok (DetachAccept es)) Lawful
-      (λ es right. obeys (DetachAccept es) kind long (packet_after 3 f es e right) tt))
+  detach_accept_obeys kind = packet_obeys 3 DetachAccept (λ es long after. obeys (DetachAccept es) kind long after tt)
 
   location_accept_obeys : take 2 xs ≡ 0x05 ∷ 0x02 ∷ [] → IfOk (location_accept xs) Lawful
   location_accept_obeys kind =
