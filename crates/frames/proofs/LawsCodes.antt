@@ -9,13 +9,13 @@ use Rattle.identities.specs.declared.values.Signature.{Signature}
 use Rattle.identities.specs.declared.values.Tmsi.{Tmsi}
 use Rattle.frames.specs.LawsValues.{CodesTmsi, CodesSignature, CodesTimer}
 use Rattle.frames.specs.Values.{coded_tmsi, tmsi_value, signature_value, timer_value}
-use Rattle.vocabulary.proofs.Inversions.{never, when_some}
+use Rattle.vocabulary.proofs.Inversions.{when_some}
 use Rattle.frames.proofs.LawsAreas.{from, take_from}
 use Rattle.frames.proofs.LawsElements.{Octets}
 
 pub cond_some : {X : Type 0} (b : Bool) (o : Option X) (x : X) → cond b o None ≡ Some x → (b ≡ true) × (o ≡ Some x)
 cond_some true o x e = (refl, e)
-cond_some false o x e = absurd (never e)
+cond_some false o x e = cc
 
 -- all octets of a value that has n of them
 all_from : (n : ℕ) (v : List ℕ) → length v ≡ n → v ≡ from n 0 v
@@ -24,9 +24,6 @@ all_from n v long = sym (take_all n v (omega arith)) ∙ take_from n 0 v (omega 
 four_back : (a b c d : ℕ) → a < 256 → b < 256 → c < 256 → d < 256 → four_octets (a * 16777216 + b * 65536 + c * 256 + d) ≡ a ∷ b ∷ c ∷ d ∷ []
 four_back a b c d ha hb hc hd =
     let n = a * 16777216 + b * 65536 + c * 256 + d in
-    let first : n / 16777216 ≡ a = omega arith in
-    let second : n / 65536 ≡ a * 256 + b = omega arith in
-    let third : n / 256 ≡ (a * 256 + b) * 256 + c = omega arith in
     let one : n / 16777216 % 256 ≡ a = omega arith in
     let two : n / 65536 % 256 ≡ b = omega arith in
     let three : n / 256 % 256 ≡ c = omega arith in
@@ -37,7 +34,6 @@ three_back : (a b c : ℕ) → b < 256 → c < 256 → three_octets (a * 65536 +
 three_back a b c hb hc =
     let n = a * 65536 + b * 256 + c in
     let one : n / 65536 ≡ a = omega arith in
-    let second : n / 256 ≡ a * 256 + b = omega arith in
     let two : n / 256 % 256 ≡ b = omega arith in
     let three : n % 256 ≡ c = omega arith in
     λ k. one k ∷ two k ∷ three k ∷ []

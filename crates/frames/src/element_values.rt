@@ -56,7 +56,7 @@ fn entry_at(list: &[u8], place: usize) -> Option<Option<Plmn>>
 pub(crate) fn plmns_value(value: &[u8]) -> Option<PlmnList>
     ensures { result ≡ plmns_value value.now }
 {
-    if value.len() == 0 || value.len() > 15 || value.len() % 3 != 0 {
+    if value.is_empty() || value.len() > 15 || value.len() % 3 != 0 {
         return None;
     }
     let mut entries = [None; 5];

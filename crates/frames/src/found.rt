@@ -24,7 +24,7 @@ pub(crate) struct Found {
 }
 
 // The first element of a tag gives the value, and later ones are not looked at. The first bad value keeps the blame.
-fn note<T: Drop>(first: &mut Option<T>, new: Option<T>, bad: &mut Option<usize>, at: usize)
+fn keep_first<T: Drop>(first: &mut Option<T>, new: Option<T>, bad: &mut Option<usize>, at: usize)
     ensures value { first.new ≡ option_or first.old new }
     ensures blamed { bad.new ≡ blame first.old new bad.old at }
 {
@@ -43,16 +43,21 @@ impl Found {
         ensures after { self.new ≡ noted known self.old value.now at }
     {
         match known {
-            Known::PTmsiSignature => note(
+            Known::PTmsiSignature => keep_first(
                 &mut self.signature,
                 signature_value(value),
                 &mut self.bad,
                 at,
             ),
-            Known::PTmsi => note(&mut self.p_tmsi, tmsi_value(value), &mut self.bad, at),
-            Known::T3302 => note(&mut self.t3302, timer_value(value), &mut self.bad, at),
-            Known::Identity => note(&mut self.identity, identity_value(value), &mut self.bad, at),
-            Known::Equivalents => note(
+            Known::PTmsi => keep_first(&mut self.p_tmsi, tmsi_value(value), &mut self.bad, at),
+            Known::T3302 => keep_first(&mut self.t3302, timer_value(value), &mut self.bad, at),
+            Known::Identity => keep_first(
+                &mut self.identity,
+                identity_value(value),
+                &mut self.bad,
+                at,
+            ),
+            Known::Equivalents => keep_first(
                 &mut self.equivalents,
                 plmns_value(value),
                 &mut self.bad,

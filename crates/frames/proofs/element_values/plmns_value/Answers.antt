@@ -1,4 +1,5 @@
 use Rattle.std.proofs.Common.{◌≡◌, ◌∙◌, None, sym, rules, refl, arith, length-set}
+use Rattle.std.proofs.lemmas.Bool.{eqb-false}
 use Rattle.frames.proofs.LawsPlmns.{listed, chain_more, chain_refused, chain_full}
 use Rattle.frames.proofs.element_values.plmns_value.Goals as goal
 
@@ -9,7 +10,7 @@ pub returns-in_err-entry : goal.returns-in_err-entry
 returns-in_err-entry c =
     let v = c.args.value.now in
     let none : c.from_residual.result ≡ None = search rules in
-    none ∙ sym (listed v (omega arith) (omega arith) (omega arith) ∙ c.loop-place.invariant.0 ∙ chain_refused _ _ v _ (omega arith) (sym c.in_err-entry.ensures))
+    none ∙ sym (listed v (omega (arith, eqb-false _ 0 (sym c.if-is_empty.ensures))) (omega arith) (omega arith) ∙ c.loop-place.invariant.0 ∙ chain_refused _ _ v _ (omega arith) (sym c.in_err-entry.ensures))
 
 pub loop-place-preserved : goal.loop-place-preserved
 loop-place-preserved c = (
@@ -21,4 +22,4 @@ loop-place-preserved c = (
 pub returns : goal.returns
 returns c =
     let v = c.args.value.now in
-    sym (listed v (omega arith) (omega arith) (omega arith) ∙ c.loop-place.invariant.0 ∙ chain_full c.loop-place.place v (λ ps. record { entries = ps }) c.loop-place.entry-items c.loop-place.invariant.1 c.loop-place-test.false)
+    sym (listed v (omega (arith, eqb-false _ 0 (sym c.if-is_empty.ensures))) (omega arith) (omega arith) ∙ c.loop-place.invariant.0 ∙ chain_full c.loop-place.place v (λ ps. record { entries = ps }) c.loop-place.entry-items c.loop-place.invariant.1 c.loop-place-test.false)
