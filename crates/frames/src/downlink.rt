@@ -21,20 +21,20 @@ pub enum Cause {
 }
 
 // The identity that a location updating accept gives.
-#[derive(Clone, Copy)]
+#[derive(Clone, Copy, PartialEq, Eq)]
 pub enum MobileIdentity {
     Imsi(Imsi),
     Tmsi(Tmsi),
 }
 
 // The networks that the network calls equivalent, in its order: at most five.
-#[derive(Clone, Copy)]
+#[derive(Clone, Copy, PartialEq, Eq)]
 pub struct PlmnList {
     pub entries: [Option<Plmn>; 5],
 }
 
 // The elements that may follow on the packet side.
-#[derive(Clone, Copy)]
+#[derive(Clone, Copy, PartialEq, Eq)]
 pub struct PacketElements {
     pub signature: Option<Signature>,
     pub p_tmsi: Option<Tmsi>,
@@ -43,14 +43,14 @@ pub struct PacketElements {
 }
 
 // The elements that may follow on the circuit side.
-#[derive(Clone, Copy)]
+#[derive(Clone, Copy, PartialEq, Eq)]
 pub struct CircuitElements {
     pub identity: Option<MobileIdentity>,
     pub equivalents: Option<PlmnList>,
 }
 
 // An attach accept or a routing area update accept; T3312 is in seconds.
-#[derive(Clone, Copy)]
+#[derive(Clone, Copy, PartialEq, Eq)]
 pub struct PacketAccept {
     pub t3312: u32,
     pub rai: Rai,
@@ -58,7 +58,7 @@ pub struct PacketAccept {
 }
 
 // A frame that was read whole.
-#[derive(Clone, Copy)]
+#[derive(Clone, Copy, PartialEq, Eq)]
 pub enum Downlink {
     AttachAccept(PacketAccept),
     AttachReject(Cause, PacketElements),

@@ -4,7 +4,7 @@ use identities::{Imsi, KeyNumber, Signature, Tmsi};
 use vocabulary::{Lai, Rai};
 
 // What is stored for the packet side, as far as a request carries it.
-#[derive(Clone, Copy)]
+#[derive(Clone, Copy, PartialEq, Eq)]
 pub struct PacketStored {
     pub imsi: Imsi,
     pub p_tmsi: Option<Tmsi>,
@@ -14,7 +14,7 @@ pub struct PacketStored {
 }
 
 // What is stored for the circuit side, as far as a request carries it.
-#[derive(Clone, Copy)]
+#[derive(Clone, Copy, PartialEq, Eq)]
 pub struct CircuitStored {
     pub imsi: Imsi,
     pub tmsi: Option<Tmsi>,
@@ -45,7 +45,7 @@ pub enum DetachType {
 }
 
 // A message to the network.
-#[derive(Clone, Copy)]
+#[derive(Clone, Copy, PartialEq, Eq)]
 pub enum Uplink {
     AttachRequest(Terminal, PacketStored),
     AttachComplete,
