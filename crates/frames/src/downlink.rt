@@ -27,7 +27,8 @@ pub enum MobileIdentity {
     Tmsi(Tmsi),
 }
 
-// The networks that the network calls equivalent, in its order: at most five.
+// The networks that the network calls equivalent, in its order: at most five. An array of places, since memory is fixed and the
+// value is copied.
 #[derive(Clone, Copy, PartialEq, Eq)]
 pub struct PlmnList {
     pub entries: [Option<Plmn>; 5],

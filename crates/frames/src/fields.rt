@@ -46,7 +46,7 @@ impl From<DetachType> for u8 {
     }
 }
 
-// A TMSI, else the IMSI, with the length in front.
+// A TMSI, else the IMSI: the first octet is the length, at which what fills the array up is cut off.
 pub(crate) fn identity(tmsi: Option<Tmsi>, imsi: Imsi) -> ArrayVec<u8, 9>
     ensures value { result.items ≡ identity_octets tmsi imsi }
 {

@@ -5,7 +5,8 @@ ghost use Rattle.frames.specs.declared.uplink.WriteFault.TheVariants.{NoRoom};
 
 use crate::WriteFault;
 
-// The octets of all parts, where there is room for them.
+// The octets of all parts, where there is room for them. Each part is held against the room that is left, since a sum of
+// lengths alone might not fit.
 #[tactic(auto, using(crate::proofs::Chains::part_within))]
 fn len_within(parts: &[&[u8]], room: usize) -> Result<usize, WriteFault>
     ensures value { result ≡ cond (nat_lt room (length (joined parts.now))) (Err NoRoom) (Ok (length (joined parts.now))) }
@@ -27,6 +28,7 @@ pub(crate) fn put(parts: &[&[u8]], area: &mut [u8]) -> Result<usize, WriteFault>
     ensures after { area.new ≡ over (joined parts.now) area.old }
 {
     let len = len_within(parts, area.len())?;
+    // Where a part stands is the sum of the lengths before it, which no index of the loop gives.
     let mut start = 0;
     for part in parts {
         let end = start + part.len();

@@ -41,6 +41,9 @@ fn packet_accept(
     })
 }
 
+// One reader for each frame. What readers share stands above; what is left is where the fields stand, and the variant. A closure
+// for the variant would ask for a contract on what it gives, longer than the readers that it would join.
+
 // The result stands in the low half of its octet.
 fn attach_accept(frame: &[u8]) -> Result<Downlink, FrameFault>
     ensures value { result ≡ attach_accept frame.now }
