@@ -18,10 +18,10 @@ pub(crate) fn tmsi_value(value: &[u8]) -> Option<Tmsi>
 pub(crate) fn identity_value(value: &[u8]) -> Option<MobileIdentity>
     ensures { result ≡ identity_value value.now }
 {
-    if let [0xf4, _, _, _, _] = value {
-        return Some(MobileIdentity::Tmsi(tmsi_value(value)?));
+    match value {
+        [0xf4, _, _, _, _] => tmsi_value(value).map(MobileIdentity::Tmsi),
+        _ => Imsi::from_octets(value).map(MobileIdentity::Imsi),
     }
-    Some(MobileIdentity::Imsi(Imsi::from_octets(value)?))
 }
 
 pub(crate) fn signature_value(value: &[u8]) -> Option<Signature>
@@ -49,8 +49,7 @@ fn entry_at(list: &[u8], place: usize) -> Option<Option<Plmn>>
     if at >= list.len() {
         return Some(None);
     }
-    let plmn = Plmn::from_octets([list[at], list[at + 1], list[at + 2]])?;
-    Some(Some(plmn))
+    Plmn::from_octets([list[at], list[at + 1], list[at + 2]]).map(Some)
 }
 
 pub(crate) fn plmns_value(value: &[u8]) -> Option<PlmnList>
