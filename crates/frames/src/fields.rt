@@ -1,10 +1,27 @@
 // The fields of the messages of the modem.
 ghost use Rattle.std.specs.Prelude.{◌≡◌, ◌≤◌};
-ghost use Rattle.frames.specs.Octets.{identity_octets, signature_element, key_and_type, request_type, detach_type};
+ghost use Rattle.frames.specs.Octets.{identity_octets, sent_p_tmsi, signature_element, attach_signature, key_and_type, request_type, detach_type};
 
-use crate::{DetachType, LocationUpdate, RoutingUpdate};
+use crate::{DetachType, LocationUpdate, PacketStored, RoutingUpdate};
 use arrayvec::ArrayVec;
 use identities::{Imsi, KeyNumber, Signature, Tmsi};
+
+// A P-TMSI goes into a message only if the routing area is stored that it belongs to.
+pub(crate) fn sent_p_tmsi(stored: &PacketStored) -> Option<Tmsi>
+    ensures value { result ≡ sent_p_tmsi stored.now }
+{
+    stored.rai.and(stored.p_tmsi)
+}
+
+// In an attach request a signature goes only with a P-TMSI.
+pub(crate) fn attach_signature(
+    p_tmsi: Option<Tmsi>,
+    signature: Option<Signature>,
+) -> Option<Signature>
+    ensures value { result ≡ attach_signature p_tmsi signature }
+{
+    p_tmsi.and(signature)
+}
 
 // The type of a request, which shares its octet with the key number.
 #[derive(Clone, Copy)]

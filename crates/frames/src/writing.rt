@@ -5,7 +5,9 @@ ghost use Rattle.frames.specs.Octets.{octets_of};
 ghost use Rattle.frames.specs.declared.uplink.Uplink.TheVariants.{AttachRequest, UpdateRequest, LocationRequest, DetachIndication};
 ghost use Rattle.frames.specs.Written.{answered, over};
 
-use crate::fields::{RequestType, identity, key_and_type, signature_element};
+use crate::fields::{
+    RequestType, attach_signature, identity, key_and_type, sent_p_tmsi, signature_element,
+};
 use crate::put::put;
 use crate::{
     CircuitStored, LocationUpdate, PacketStored, RoutingUpdate, Terminal, Uplink, WriteFault,
@@ -20,9 +22,8 @@ fn attach_request(
     ensures value { result ≡ answered (octets_of (AttachRequest terminal.now stored.now)) area.old }
     ensures after { area.new ≡ over (octets_of (AttachRequest terminal.now stored.now)) area.old }
 {
-    // A P-TMSI goes only with the routing area that it belongs to, and a signature only with a P-TMSI.
-    let p_tmsi = stored.rai.and(stored.p_tmsi);
-    let signature = p_tmsi.and(stored.signature);
+    let p_tmsi = sent_p_tmsi(stored);
+    let signature = attach_signature(p_tmsi, stored.signature);
     put(
         &[
             &[0x08, 0x01, 0x02],
