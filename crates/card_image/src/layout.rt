@@ -75,6 +75,7 @@ fn forbidden_octets(forbidden: &PlmnBar) -> [u8; 12]
     ensures once { distinct same_plmn forbidden.now ≡ true }
 {
     let list = forbidden.entries();
+    // Place by place: with `array::from_fn` over the places the proof did not close.
     let [a, b, c] = place_octets(list, 0);
     let [d, e, f] = place_octets(list, 1);
     let [g, h, i] = place_octets(list, 2);

@@ -6,6 +6,7 @@ use crate::layout::image_of;
 use card::{Card, PacketRecord, Record, Status};
 use identities::{Imsi, KeyNumber, Signature, Tmsi};
 use lists::{PlmnBar, Recent};
+use std::array;
 use vocabulary::{Lai, Plmn, Rai};
 
 // The octets from a place on, as many as are asked for.
@@ -58,23 +59,25 @@ fn circuit_in(image: &[u8; 48], status: Status) -> Record<Lai>
     }
 }
 
-fn add_some(list: PlmnBar, plmn: Option<Plmn>) -> PlmnBar
-    ensures value { result ≡ added_some list plmn }
+fn add_some(list: &mut PlmnBar, plmn: Option<Plmn>)
+    ensures after { list.new ≡ added_some list.old plmn }
 {
-    let mut list = list;
     if let Some(plmn) = plmn {
         list.add(plmn);
     }
-    list
 }
 
 fn forbidden_in(image: &[u8; 48]) -> PlmnBar
     ensures value { result ≡ forbidden_in image.now }
 {
-    let one = add_some(Recent::empty(), Plmn::from_octets(part_at(image, 34)));
-    let two = add_some(one, Plmn::from_octets(part_at(image, 37)));
-    let three = add_some(two, Plmn::from_octets(part_at(image, 40)));
-    add_some(three, Plmn::from_octets(part_at(image, 43)))
+    let places: [Option<Plmn>; 4] = array::from_fn(|place| {
+        Plmn::from_octets(part_at(image, 34 + 3 * place))
+    });
+    let mut list = Recent::empty();
+    for plmn in places {
+        add_some(&mut list, plmn);
+    }
+    list
 }
 
 fn likely(image: &[u8; 48]) -> Option<Card>
