@@ -1,5 +1,5 @@
 -- A card that is made holds what was given.
-use Rattle.std.proofs.Common.{◌≡◌, ℕ, ◌≤◌, Bool, true, false, ◌&&◌, eqb, ltb, leb, List, [], ◌∷◌, ◌++◌, map, length, take, drop, replicate, IfOk as made, Some, None, Ok, Err, Option, Result, sym, refl, ap, ◌∙◌, subst, inl, inr, arith}
+use Rattle.std.proofs.Common.{◌≡◌, ℕ, ◌≤◌, Bool, true, false, ◌&&◌, eqb, ltb, leb, List, [], ◌∷◌, ◌++◌, map, length, take, drop, replicate, Some, None, Ok, Option, Result, sym, refl, ap, ◌∙◌, subst, inl, inr, arith}
 use Rattle.std.specs.Option.{option_map}
 use Rattle.std.proofs.lemmas.List.{take_at}
 use Rattle.std.proofs.lemmas.Bool.{and_parts, cases_Bool, cond-true, cond-false, eqb-true, leb-true, ltb-false}
@@ -8,7 +8,7 @@ use Rattle.vocabulary.specs.Same.{same_plmn}
 use Rattle.vocabulary.specs.declared.values.Plmn.{Plmn}
 use Rattle.vocabulary.specs.declared.values.Lai.{Lai}
 use Rattle.vocabulary.specs.declared.values.Rai.{Rai}
-use Rattle.vocabulary.proofs.Equalities.{plmn_decides}
+use Rattle.vocabulary.specs.Told.{plmn_told}
 use Rattle.vocabulary.proofs.Inversions.{never, some_same, when_some, then_some, mapped_some}
 use Rattle.identities.specs.Identities.{imsi_from, imsi_when, tmsi_when, signature_when, key_when, key_written}
 use Rattle.identities.specs.Marks.{lawful_imsi, lawful_tmsi, lawful_signature, lawful_key}
@@ -19,10 +19,10 @@ use Rattle.identities.specs.declared.values.Tmsi.{Tmsi}
 use Rattle.lists.specs.Laws.{Once}
 use Rattle.lists.specs.Lists.{distinct}
 use Rattle.lists.proofs.Members.{once_from_distinct}
-use Rattle.card.specs.Given.{Given, checked, passed, status_of, part_of, key_of, lai_in, rai_in, record_from, packet_from, plmns_from, at_most_four, forbidden_from, card_from, made_contents}
-use Rattle.card.specs.Laws.{plmn_in, KeepsRecord, Keeps}
+use Rattle.card.specs.Given.{Given, checked, passed, status_of, part_of, key_of, record_from, packet_from, plmns_from, at_most_four, forbidden_from, card_from}
+use Rattle.vocabulary.specs.Places.{plmn_in, lai_in, rai_in}
+use Rattle.card.specs.Laws.{KeepsRecord, Keeps}
 use Rattle.card.specs.Numbers.{status_number}
-use Rattle.card.specs.Contents.{Contents, contents}
 use Rattle.card.specs.declared.fields.RecordFields.{RecordFields}
 use Rattle.card.specs.declared.fields.Unlawful.{Unlawful}
 use Rattle.card.specs.declared.fields.Unlawful.TheVariants as unlawful
@@ -118,16 +118,16 @@ record_kept {A} read f r e =
       key = ap (λ x. key_written x.key) made ∙ key_kept f.key four.0 four.1;
     }
 
-card_kept : (g : Given) (c : Contents) → Ok c ≡ card_from g → Keeps g c
+pub card_kept : (g : Given) (c : Card) → Ok c ≡ card_from g → Keeps g c
 unfolding forbidden_from
 card_kept g c e =
-    let at_list : Imsi → PacketRecord → Record Lai → List Plmn → Result Contents Unlawful =
+    let at_list : Imsi → PacketRecord → Record Lai → List Plmn → Result Card Unlawful =
     λ imsi packet circuit forbidden. Ok (record { imsi = imsi; packet = packet; circuit = circuit; forbidden = forbidden }) in
-    let at_circuit : Imsi → PacketRecord → Record Lai → Result Contents Unlawful =
+    let at_circuit : Imsi → PacketRecord → Record Lai → Result Card Unlawful =
     λ imsi packet circuit. checked (forbidden_from g.forbidden) unlawful.Forbidden (at_list imsi packet circuit) in
-    let at_packet : Imsi → PacketRecord → Result Contents Unlawful =
+    let at_packet : Imsi → PacketRecord → Result Card Unlawful =
     λ imsi packet. passed (record_from lai_in g.circuit) (at_circuit imsi packet) in
-    let at_imsi : Imsi → Result Contents Unlawful =
+    let at_imsi : Imsi → Result Card Unlawful =
     λ imsi. passed (packet_from g.packet g.signature) (at_packet imsi) in
     let at_base : Record Rai → Result PacketRecord Unlawful =
     λ base. checked (part_of signature_when g.signature) unlawful.Signature (λ part. Ok (record { base = base; signature = part })) in
@@ -151,9 +151,5 @@ card_kept g c e =
       circuit = subst (KeepsRecord lai_in g.circuit) (sym (ap (λ x. x.circuit) made)) (record_kept lai_in g.circuit three.0 (sym three.1));
       networks = plmns_kept g.forbidden list.0 list.1 ∙ ap (map Some) held;
       few = subst (λ ps. length ps ≤ 4) held (leb-true (length list.0) 4 parts.0);
-      once = subst Once held (once_from_distinct same_plmn plmn_decides list.0 parts.1);
+      once = subst Once held (once_from_distinct same_plmn plmn_told list.0 parts.1);
     }
-
-pub result_kept : (r : Result Card Unlawful) (g : Given) → made_contents r ≡ card_from g → made r (λ card. Keeps g (contents card))
-result_kept (Ok card) g e = card_kept g (contents card) e
-result_kept (Err fault) g e = tt

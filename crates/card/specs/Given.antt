@@ -1,17 +1,14 @@
 -- A card as it comes from outside, and the lawful card that it makes.
-use Rattle.std.specs.Prelude.{ℕ, cond, ◌&&◌, ◌||◌, List, [], ◌∷◌, ◌++◌, length, Some, None, Ok, Err, Option, Result, ◌==◌, nat_le, slice_index}
+use Rattle.std.specs.Prelude.{ℕ, cond, ◌&&◌, ◌||◌, List, [], ◌∷◌, ◌++◌, length, Some, None, Ok, Err, Option, Result, ◌==◌, nat_le}
 use Rattle.std.specs.Option.{option_map}
 use Rattle.vocabulary.specs.Made.{then}
-use Rattle.vocabulary.specs.Places.{plmn_of, lai_of, rai_of}
+use Rattle.vocabulary.specs.Places.{plmn_in, lai_in, rai_in}
 use Rattle.vocabulary.specs.Same.{same_plmn}
 use Rattle.vocabulary.specs.declared.values.Plmn.{Plmn}
-use Rattle.vocabulary.specs.declared.values.Lai.{Lai}
-use Rattle.vocabulary.specs.declared.values.Rai.{Rai}
 use Rattle.identities.specs.Identities.{imsi_from, tmsi_when, signature_when, key_when}
 use Rattle.identities.specs.declared.values.KeyNumber.{KeyNumber}
 use Rattle.lists.specs.Lists.{member, distinct}
 use Rattle.card.specs.Numbers.{status_number}
-use Rattle.card.specs.Contents.{Contents, contents}
 use Rattle.card.specs.declared.fields.CardFields.{CardFields}
 use Rattle.card.specs.declared.fields.RecordFields.{RecordFields}
 use Rattle.card.specs.declared.fields.Unlawful.{Unlawful}
@@ -53,13 +50,6 @@ part_of read (Some x) = option_map Some (read x)
 abbrev pub key_of : ℕ → Option (Option KeyNumber)
 key_of n = cond (nat_le n 7) (Some (key_when n)) None
 
--- the area that the octets of either kind name
-abbrev pub lai_in : List ℕ → Option Lai
-lai_in o = lai_of (slice_index o 0) (slice_index o 1) (slice_index o 2) (slice_index o 3) (slice_index o 4)
-
-abbrev pub rai_in : List ℕ → Option Rai
-rai_in o = rai_of (slice_index o 0) (slice_index o 1) (slice_index o 2) (slice_index o 3) (slice_index o 4) (slice_index o 5)
-
 -- a registration record, of one make for either kind of area, once its area is looked at
 abbrev pub record_with : {O A : Type 0} → Option (Option A) → RecordFields O → Result (Record A) Unlawful
 record_with place f =
@@ -69,7 +59,7 @@ record_with place f =
     checked (key_of f.key) unlawful.Key (λ key.
     Ok (record { status = status; identity = identity; area = area; key = key })))))
 
-abbrev pub record_from : {A : Type 0} → (List ℕ → Option A) → RecordFields (List ℕ) → Result (Record A) Unlawful
+abbrev pub record_from : {O A : Type 0} → (O → Option A) → RecordFields O → Result (Record A) Unlawful
 record_from read f = record_with (part_of read f.area) f
 
 abbrev pub passed : {X Y : Type 0} → Result X Unlawful → (X → Result Y Unlawful) → Result Y Unlawful
@@ -85,7 +75,7 @@ packet_from f signature =
 -- the networks, where each is lawful
 abbrev pub plmns_from : List (List ℕ) → Option (List Plmn)
 plmns_from [] = Some []
-plmns_from (o ∷ os) = then (plmn_of (slice_index o 0) (slice_index o 1) (slice_index o 2)) (λ p. option_map (λ ps. p ∷ ps) (plmns_from os))
+plmns_from (o ∷ os) = then (plmn_in o) (λ p. option_map (λ ps. p ∷ ps) (plmns_from os))
 
 -- at most four of them, none twice
 abbrev pub at_most_four : List Plmn → Option (List Plmn)
@@ -97,19 +87,14 @@ forbidden_from os = then (plmns_from os) at_most_four
 -- a list with one network more, where it is lawful, new to the list, and not the fifth
 abbrev pub one_more : List Plmn → List ℕ → Option (List Plmn)
 one_more ps o =
-    then (plmn_of (slice_index o 0) (slice_index o 1) (slice_index o 2)) (λ p.
+    then (plmn_in o) (λ p.
     cond (member same_plmn p ps || nat_le 4 (length ps)) None (Some (ps ++ p ∷ [])))
 
 -- the card that is given, or the first of its parts that is not lawful
-abbrev pub card_from : Given → Result Contents Unlawful
+abbrev pub card_from : Given → Result Card Unlawful
 card_from g =
     checked (imsi_from g.imsi) unlawful.Imsi (λ imsi.
     passed (packet_from g.packet g.signature) (λ packet.
     passed (record_from lai_in g.circuit) (λ circuit.
     checked (forbidden_from g.forbidden) unlawful.Forbidden (λ forbidden.
     Ok (record { imsi = imsi; packet = packet; circuit = circuit; forbidden = forbidden })))))
-
--- the contents of a card that was made
-abbrev pub made_contents : Result Card Unlawful → Result Contents Unlawful
-made_contents (Ok card) = Ok (contents card)
-made_contents (Err fault) = Err fault

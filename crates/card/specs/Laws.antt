@@ -1,19 +1,14 @@
 -- What a card that is made holds, told by what was given and not by how it is checked.
-use Rattle.std.specs.Prelude.{◌≡◌, ℕ, ◌≤◌, List, map, length, take, Some, Option, slice_index}
+use Rattle.std.specs.Prelude.{◌≡◌, ℕ, ◌≤◌, List, map, length, take, Some, Option}
 use Rattle.std.specs.Option.{option_map}
-use Rattle.vocabulary.specs.Places.{plmn_of}
-use Rattle.vocabulary.specs.declared.values.Plmn.{Plmn}
+use Rattle.vocabulary.specs.Places.{plmn_in, lai_in, rai_in}
 use Rattle.identities.specs.Identities.{key_written}
 use Rattle.lists.specs.Laws.{Once}
-use Rattle.card.specs.Given.{Given, lai_in, rai_in}
+use Rattle.card.specs.Given.{Given}
 use Rattle.card.specs.Numbers.{status_number}
-use Rattle.card.specs.Contents.{Contents}
+use Rattle.card.specs.declared.values.Card.{Card}
 use Rattle.card.specs.declared.fields.RecordFields.{RecordFields}
 use Rattle.card.specs.declared.values.Record.{Record}
-
--- the network that three octets name
-abbrev pub plmn_in : List ℕ → Option Plmn
-plmn_in o = plmn_of (slice_index o 0) (slice_index o 1) (slice_index o 2)
 
 -- a record holds the status, the identity and the key that were given, and the area that its octets name
 pub record KeepsRecord {A : Type 0} (read : List ℕ → Option A) (f : RecordFields (List ℕ)) (r : Record A) : Type 0 where
@@ -23,7 +18,7 @@ pub record KeepsRecord {A : Type 0} (read : List ℕ → Option A) (f : RecordFi
   pub key : key_written r.key ≡ f.key
 
 -- a card holds all that was given, and at most four forbidden networks, none twice
-pub record Keeps (g : Given) (c : Contents) : Type 0 where
+pub record Keeps (g : Given) (c : Card) : Type 0 where
   pub digits : take c.imsi.len c.imsi.digits ≡ g.imsi
   pub packet : KeepsRecord rai_in g.packet c.packet.base
   pub signature : option_map (λ s. s.bits) c.packet.signature ≡ g.signature

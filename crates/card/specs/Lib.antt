@@ -1,4 +1,3 @@
-pub mod Contents
 pub mod Given
 pub mod Laws
 pub mod Numbers

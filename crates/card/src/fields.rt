@@ -22,7 +22,7 @@ pub struct CardFields<'a> {
 }
 
 // What is not lawful in a card that is given.
-#[derive(Clone, Copy)]
+#[derive(Clone, Copy, PartialEq, Eq)]
 pub enum Unlawful {
     // Not 6 to 15 decimal digits.
     Imsi,

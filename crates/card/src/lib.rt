@@ -3,6 +3,7 @@
 
 mod checking;
 mod fields;
+mod parts;
 mod statuses;
 mod values;
 

@@ -4,7 +4,7 @@ use lists::PlmnBar;
 use vocabulary::{Lai, Rai};
 
 // How the last registration ended; the numbers stand in specs/Numbers.
-#[derive(Clone, Copy)]
+#[derive(Clone, Copy, PartialEq, Eq)]
 pub enum Status {
     Updated,
     NotUpdated,

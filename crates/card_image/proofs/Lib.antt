@@ -1,6 +1,7 @@
 pub mod Compared
 pub mod Joined
 pub mod Meant
+pub mod Networks
 pub mod Opened
 pub mod Parts
 pub mod RoundTrip

@@ -11,7 +11,7 @@ use Rattle.vocabulary.specs.declared.values.Plmn.{Plmn}
 use Rattle.vocabulary.specs.declared.values.Lai.{Lai}
 use Rattle.vocabulary.specs.declared.values.Rai.{Rai}
 use Rattle.vocabulary.proofs.Back.{plmn_back, lai_back, no_lai_back}
-use Rattle.vocabulary.proofs.Equalities.{plmn_decides}
+use Rattle.vocabulary.specs.Told.{plmn_told}
 use Rattle.vocabulary.proofs.Inversions.{when_some, mapped_some}
 use Rattle.identities.specs.Identities.{tmsi_when, tmsi_of, signature_when, signature_of, key_when, key_written}
 use Rattle.identities.specs.declared.values.KeyNumber.{KeyNumber}
@@ -107,8 +107,8 @@ all_added_last : (front ps : List Plmn) → length (front ++ ps) ≤ 4 → disti
 all_added_last front [] few once = sym (append-nil front)
 all_added_last front (p ∷ ps) few once =
     let whole : (front ++ p ∷ []) ++ ps ≡ front ++ p ∷ ps = append_assoc front (p ∷ []) ps in
-    let new = fresh same_plmn plmn_decides front ps p once in
-    ap (λ f. all_added f ps) (added_last same_plmn plmn_decides 4 front p new (omega (arith, length-append front (p ∷ ps))))
+    let new = fresh same_plmn plmn_told front ps p once in
+    ap (λ f. all_added f ps) (added_last same_plmn plmn_told 4 front p new (omega (arith, length-append front (p ∷ ps))))
     ∙ all_added_last (front ++ p ∷ []) ps (subst (λ l. length l ≤ 4) (sym whole) few) (subst (λ l. distinct same_plmn l ≡ true) (sym whole) once)
     ∙ whole
 

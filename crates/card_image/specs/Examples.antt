@@ -3,7 +3,7 @@ use Rattle.std.specs.Prelude.{◌≡◌, ℕ, List, [], ◌∷◌, ◌++◌, map
 use Rattle.vocabulary.specs.declared.values.Lai.{Lai}
 use Rattle.vocabulary.specs.declared.values.Plmn.{Plmn}
 use Rattle.card.specs.Numbers.{status_number}
-use Rattle.card.specs.Contents.{Contents}
+use Rattle.card.specs.declared.values.Card.{Card}
 use Rattle.card.specs.declared.values.Status.TheVariants.{Updated, NotUpdated, NotAllowed}
 use Rattle.card_image.specs.Layout.{image}
 use Rattle.card_image.specs.Meaning.{contents_in}
@@ -19,7 +19,7 @@ abbrev pub lai_001_01_1 : Lai
 lai_001_01_1 = record { plmn = plmn_001_01; lac = 1; lawful = refl }
 
 -- a card on which everything is stored
-abbrev pub full_card : Contents
+abbrev pub full_card : Card
 full_card = record {
   imsi = record { digits = 0 ∷ 0 ∷ 1 ∷ 0 ∷ 1 ∷ 0 ∷ 1 ∷ 2 ∷ 3 ∷ 4 ∷ 5 ∷ 6 ∷ 7 ∷ 8 ∷ 9 ∷ []; len = 15; lawful = refl };
   packet = record {
@@ -49,7 +49,7 @@ full_image =
     ++ 0x03 ∷ 0x00 ∷ [])))
 
 -- a card with nothing but the IMSI 123456
-abbrev pub bare_card : Contents
+abbrev pub bare_card : Card
 bare_card = record {
   imsi = record { digits = 1 ∷ 2 ∷ 3 ∷ 4 ∷ 5 ∷ 6 ∷ 15 ∷ 15 ∷ 15 ∷ 15 ∷ 15 ∷ 15 ∷ 15 ∷ 15 ∷ 15 ∷ []; len = 6; lawful = refl };
   packet = record { base = record { status = NotUpdated; identity = None; area = None; key = None }; signature = None };

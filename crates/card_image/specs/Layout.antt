@@ -7,7 +7,7 @@ use Rattle.identities.specs.Identities.{four_octets, three_octets, imsi_octets, 
 use Rattle.identities.specs.declared.values.Tmsi.{Tmsi}
 use Rattle.identities.specs.declared.values.Signature.{Signature}
 use Rattle.card.specs.Numbers.{status_number}
-use Rattle.card.specs.Contents.{Contents}
+use Rattle.card.specs.declared.values.Card.{Card}
 use Rattle.card.specs.declared.values.PacketRecord.{PacketRecord}
 use Rattle.card.specs.declared.values.Record.{Record}
 use Rattle.card.specs.declared.values.Status.{Status}
@@ -47,7 +47,7 @@ abbrev pub forbidden_octets : List Plmn → List ℕ
 forbidden_octets ps = place_octets ps 0 ++ (place_octets ps 1 ++ (place_octets ps 2 ++ place_octets ps 3))
 
 -- the IMSI as a mobile identity in octets 0 to 8, FF behind it; the keys of both sides in the last two
-unfoldable pub image : Contents → List ℕ
+unfoldable pub image : Card → List ℕ
 image c =
     imsi_octets c.imsi ++ (packet_octets c.packet ++ (circuit_octets c.circuit ++ (forbidden_octets c.forbidden
     ++ key_written c.packet.base.key ∷ key_written c.circuit.key ∷ [])))

@@ -1,8 +1,9 @@
 // Writing the image of a card.
 ghost use Rattle.std.specs.Prelude.{◌≡◌, ◌+◌, ◌≤◌, true, ◌++◌, length, take, Some};
 ghost use Rattle.std.specs.Option.{option_map};
-ghost use Rattle.lists.specs.Entries.{plmns};
-ghost use Rattle.card.specs.Contents.{Contents, contents};
+ghost use Rattle.vocabulary.specs.Same.{same_plmn};
+ghost use Rattle.lists.specs.Lists.{distinct};
+ghost use Rattle.card.specs.declared.values.Card.{Card};
 ghost use Rattle.card_image.specs.Meaning.{contents_in, area_fits, lawful_contents};
 ghost use Rattle.card_image.specs.Layout.{status_written, identity_bits, signature_bits, packet_octets, circuit_octets, place_octets, forbidden_octets, image};
 ghost use Rattle.identities.specs.Identities.{four_octets, three_octets};
@@ -12,14 +13,11 @@ use identities::{KeyNumber, Signature, Tmsi};
 use lists::PlmnBar;
 use vocabulary::{Lai, Plmn, Rai};
 
+// A status is written as one less than its number.
 fn status_written(status: Status) -> u8
     ensures { result ≡ status_written status }
 {
-    match status {
-        Status::Updated => 0,
-        Status::NotUpdated => 1,
-        Status::NotAllowed => 2,
-    }
+    u8::from(status) - 1
 }
 
 fn identity_octets(identity: Option<Tmsi>) -> [u8; 4]
@@ -65,17 +63,19 @@ fn circuit_octets(circuit: &Record<Lai>) -> [u8; 11]
 fn place_octets(list: &[Plmn], place: usize) -> [u8; 3]
     ensures value { result ≡ place_octets list.now place }
 {
-    if place < list.len() {
-        list[place].octets()
-    } else {
-        [0xff; 3]
+    match list.get(place) {
+        Some(plmn) => plmn.octets(),
+        None => [0xff; 3],
     }
 }
 
 fn forbidden_octets(forbidden: &PlmnBar) -> [u8; 12]
-    ensures value { result ≡ forbidden_octets (plmns forbidden.now) }
+    ensures value { result ≡ forbidden_octets forbidden.now }
+    ensures bound { length forbidden.now ≤ 4 }
+    ensures once { distinct same_plmn forbidden.now ≡ true }
 {
     let list = forbidden.entries();
+    // Place by place: with `array::from_fn` over the places the proof did not close.
     let [a, b, c] = place_octets(list, 0);
     let [d, e, f] = place_octets(list, 1);
     let [g, h, i] = place_octets(list, 2);
@@ -112,9 +112,9 @@ fn joined(
 
 // The 48 octets that a card is written as. They mean this card, and no other is written so.
 pub fn image_of(card: &Card) -> [u8; 48]
-    ensures value { result ≡ image (contents card.now) }
-    ensures back { contents_in result ≡ Some (contents card.now) }
-    ensures unique { (other : Contents) → lawful_contents other ≡ true → image other ≡ result → other ≡ contents card.now }
+    ensures value { result ≡ image card.now }
+    ensures back { contents_in result ≡ Some card.now }
+    ensures unique { (other : Card) → lawful_contents other ≡ true → image other ≡ result → other ≡ card.now }
 {
     joined(
         card.imsi.octets(),

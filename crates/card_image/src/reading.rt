@@ -1,75 +1,30 @@
 // Reading the image of a card: the only card that may be written as these octets, if it is written so.
-ghost use Rattle.std.specs.Prelude.{◌≡◌, ◌≤◌, Some};
-ghost use Rattle.std.specs.Option.{option_map};
-ghost use Rattle.lists.specs.Entries.{plmns};
-ghost use Rattle.card.specs.Contents.{contents};
-ghost use Rattle.card_image.specs.Meaning.{tmsi_at, signature_at, plmn_at, lai_at, rai_at, status_at, imsi_at_front, packet_in, circuit_in, added_some, forbidden_in, likely, only_written_so, contents_in, Means};
+ghost use Rattle.std.specs.Prelude.{◌≡◌, ◌+◌, ◌<◌, ◌≤◌, Some};
+ghost use Rattle.card_image.specs.Meaning.{part_at, plmn_at, status_at, imsi_at_front, packet_in, circuit_in, added_some, forbidden_in, likely, only_written_so, contents_in, Means};
 
 use crate::layout::image_of;
 use card::{Card, PacketRecord, Record, Status};
 use identities::{Imsi, KeyNumber, Signature, Tmsi};
-use lists::PlmnBar;
+use lists::{PlmnBar, Recent};
+use std::array;
 use vocabulary::{Lai, Plmn, Rai};
 
-fn tmsi_at(image: &[u8; 48], at: usize) -> Option<Tmsi>
-    requires { at ≤ 44 }
-    ensures { result ≡ tmsi_at image.now at }
+// The octets from a place on, as many as are asked for.
+fn part_at<const N: usize>(image: &[u8; 48], at: usize) -> [u8; N]
+    requires { at + N ≤ 48 }
+    ensures { result ≡ part_at N image.now at }
 {
-    Tmsi::new(u32::from_be_bytes([image[at], image[at + 1], image[at + 2], image[at + 3]]))
+    let mut part = [0; N];
+    part.copy_from_slice(&image[at..at + N]);
+    part
 }
 
-fn signature_at(image: &[u8; 48], at: usize) -> Option<Signature>
-    requires { at ≤ 45 }
-    ensures { result ≡ signature_at image.now at }
-{
-    let high = u32::from(image[at]) * 65536;
-    Signature::new(high + u32::from(image[at + 1]) * 256 + u32::from(image[at + 2]))
-}
-
-fn plmn_at(image: &[u8; 48], at: usize) -> Option<Plmn>
-    requires { at ≤ 45 }
-    ensures { result ≡ plmn_at image.now at }
-{
-    Plmn::from_octets([image[at], image[at + 1], image[at + 2]])
-}
-
-fn lai_at(image: &[u8; 48], at: usize) -> Option<Lai>
-    requires { at ≤ 43 }
-    ensures { result ≡ lai_at image.now at }
-{
-    Lai::from_octets([
-        image[at],
-        image[at + 1],
-        image[at + 2],
-        image[at + 3],
-        image[at + 4],
-    ])
-}
-
-fn rai_at(image: &[u8; 48], at: usize) -> Option<Rai>
-    requires { at ≤ 42 }
-    ensures { result ≡ rai_at image.now at }
-{
-    Rai::from_octets([
-        image[at],
-        image[at + 1],
-        image[at + 2],
-        image[at + 3],
-        image[at + 4],
-        image[at + 5],
-    ])
-}
-
+// A status is written as one less than its number.
 fn status_at(image: &[u8; 48], at: usize) -> Option<Status>
-    requires { at ≤ 47 }
+    requires { at < 48 }
     ensures { result ≡ status_at image.now at }
 {
-    match image[at] {
-        0 => Some(Status::Updated),
-        1 => Some(Status::NotUpdated),
-        2 => Some(Status::NotAllowed),
-        _ => None,
-    }
+    Status::try_from(image[at].checked_add(1)?).ok()
 }
 
 fn imsi_at_front(image: &[u8; 48]) -> Option<Imsi>
@@ -85,11 +40,11 @@ fn packet_in(image: &[u8; 48], status: Status) -> PacketRecord
     PacketRecord {
         base: Record {
             status,
-            identity: tmsi_at(image, 9),
-            area: rai_at(image, 16),
+            identity: Tmsi::from_octets(part_at(image, 9)),
+            area: Rai::from_octets(part_at(image, 16)),
             key: KeyNumber::new(image[46]),
         },
-        signature: signature_at(image, 13),
+        signature: Signature::from_octets(part_at(image, 13)),
     }
 }
 
@@ -98,33 +53,35 @@ fn circuit_in(image: &[u8; 48], status: Status) -> Record<Lai>
 {
     Record {
         status,
-        identity: tmsi_at(image, 23),
-        area: lai_at(image, 27),
+        identity: Tmsi::from_octets(part_at(image, 23)),
+        area: Lai::from_octets(part_at(image, 27)),
         key: KeyNumber::new(image[47]),
     }
 }
 
-fn add_some(list: PlmnBar, plmn: Option<Plmn>) -> PlmnBar
-    ensures value { plmns result ≡ added_some (plmns list) plmn }
+fn add_some(list: &mut PlmnBar, plmn: Option<Plmn>)
+    ensures after { list.new ≡ added_some list.old plmn }
 {
-    let mut list = list;
     if let Some(plmn) = plmn {
         list.add(plmn);
+    }
+}
+
+fn forbidden_in(image: &[u8; 48]) -> PlmnBar
+    ensures value { result ≡ forbidden_in image.now }
+{
+    let places: [Option<Plmn>; 4] = array::from_fn(|place| {
+        Plmn::from_octets(part_at(image, 34 + 3 * place))
+    });
+    let mut list = Recent::empty();
+    for plmn in places {
+        add_some(&mut list, plmn);
     }
     list
 }
 
-fn forbidden_in(image: &[u8; 48]) -> PlmnBar
-    ensures value { plmns result ≡ forbidden_in image.now }
-{
-    let one = add_some(PlmnBar::empty(), plmn_at(image, 34));
-    let two = add_some(one, plmn_at(image, 37));
-    let three = add_some(two, plmn_at(image, 40));
-    add_some(three, plmn_at(image, 43))
-}
-
 fn likely(image: &[u8; 48]) -> Option<Card>
-    ensures value { option_map contents result ≡ likely image.now }
+    ensures value { result ≡ likely image.now }
 {
     let imsi = imsi_at_front(image)?;
     let packet_status = status_at(image, 22)?;
@@ -139,7 +96,7 @@ fn likely(image: &[u8; 48]) -> Option<Card>
 
 // The card, if it is written as these octets.
 fn if_written_so(card: Card, image: &[u8; 48]) -> Option<Card>
-    ensures value { option_map contents result ≡ only_written_so image.now (Some (contents card)) }
+    ensures value { result ≡ only_written_so image.now (Some card) }
 {
     if image_of(&card) == *image {
         Some(card)
@@ -150,11 +107,9 @@ fn if_written_so(card: Card, image: &[u8; 48]) -> Option<Card>
 
 // The card that these octets are the image of; none where no card is written so.
 pub fn card_in(image: &[u8; 48]) -> Option<Card>
-    ensures value { option_map contents result ≡ contents_in image.now }
-    ensures means { Means image.now (option_map contents result) }
+    ensures value { result ≡ contents_in image.now }
+    ensures means { Means image.now result }
 {
-    match likely(image) {
-        Some(card) => if_written_so(card, image),
-        None => None,
-    }
+    let card = likely(image)?;
+    if_written_so(card, image)
 }

@@ -1,13 +1,22 @@
 -- What adding an entry does, in the slots and to the list.
-use Rattle.std.proofs.Common.{◌≡◌, ℕ, zero, suc, ◌+◌, ◌-◌, ◌<◌, ◌≤◌, Bool, true, false, cond, not, ltb, List, [], ◌∷◌, ◌++◌, length, take, drop, set, Decides, sym, refl, ap, ◌∙◌, subst, inl, inr, lt_irrefl, arith, length-drop, take-append-drop}
+use Rattle.std.proofs.Common.{◌≡◌, ℕ, zero, suc, ◌+◌, ◌-◌, ◌<◌, ◌≤◌, Bool, true, false, cond, not, eqb, ltb, List, [], ◌∷◌, ◌++◌, length, take, drop, set, replicate, Decides, sym, refl, ap, ◌∙◌, subst, inl, inr, lt_irrefl, arith, length-drop, length-set, take-append-drop}
 use Rattle.std.specs.List.{ContainsAt as Has}
 use Rattle.std.proofs.ByRecursion.{has_push}
-use Rattle.std.proofs.lemmas.List.{length_push, length-take-le, take_more_set, take_all, set_at, drop-append-le}
+use Rattle.std.proofs.lemmas.List.{length_push, length-take-le, take_more_set, take_all, set_at, drop-append-le, drop-set-lt, drop-replicate}
+use Rattle.std.proofs.Math.ListN.{drop_of_length-le}
+use Rattle.std.proofs.lemmas.Grind.{drop_more_same}
 use Rattle.std.proofs.lemmas.Bool.{both_ways, not-true, not_from_false, and_parts, and_from, or_parts, or_from, cases_Bool, cond-true, cond-false, ltb-true, ltb-false}
 use Rattle.std.proofs.lemmas.Bool.Decides.{nat_tests}
-use Rattle.lists.specs.Lists.{member, distinct, added, lawful_list}
+use Rattle.lists.specs.Held.{Held}
+use Rattle.lists.specs.Lists.{member, distinct, added}
 use Rattle.lists.specs.Laws.{Adds}
-use Rattle.lists.proofs.Members.{member_decides, member_not, once_from_distinct, lawful_parts, lawful_from}
+use Rattle.lists.proofs.Members.{member_decides, member_not, once_from_distinct}
+
+pub some_slots : (n : ℕ) → eqb n 0 ≡ false → 0 < n
+some_slots n h = grind (arith, nat_tests)
+
+pub no_slots : (n : ℕ) → eqb n 0 ≡ true → n ≡ 0
+no_slots n h = grind (arith, nat_tests)
 
 pub slot_within : (count at limit : ℕ) → count ≤ limit → 0 < limit → at ≡ cond (ltb count limit) count (count - 1) → at < limit
 slot_within count at limit within some is = grind (arith, nat_tests)
@@ -21,6 +30,12 @@ module _ {X : Type 0} (same : X → X → Bool) where
       → added same limit xs x ≡ drop (length xs + 1 - limit) (xs ++ x ∷ [])
   unfolding added
   added_newest limit xs x h = cond-false (member same x xs) _ _ h
+
+  -- a list that may have no entry keeps none
+  pub added_nowhere : (xs : List X) (x : X) → length xs ≡ 0 → xs ≡ added same 0 xs x
+  unfolding added
+  added_nowhere [] x none = refl
+  added_nowhere (y ∷ ys) x none = absurd (omega arith)
 
   -- the slot behind the newest is free
   pub added_in_room : (slots : List X) (count : ℕ) (x : X) → count < length slots → member same x (take count slots) ≡ false
@@ -134,16 +149,35 @@ module _ {X : Type 0} (same : X → X → Bool) where
               );
         }
 
-    -- what a program that adds in the slots has made
-    pub adds_in_slots : (limit : ℕ) (before : List X) (n : ℕ) (x : X) (after : List X) (r : ℕ) → 0 < limit
-        → lawful_list same limit before n ≡ true → length after ≡ length before → r ≤ length after
-        → take r after ≡ added same (length before) (take n before) x
-        → (lawful_list same limit after r ≡ true) × (take r after ≡ added same limit (take n before) x) × Adds limit (take n before) x (take r after)
-    adds_in_slots limit before n x after r some lawful long within is =
-        let parts = lawful_parts same limit before n lawful in
-        let made : take r after ≡ added same limit (take n before) x = is ∙ ap (λ m. added same m (take n before) x) parts.0 in
-        let once = ap (distinct same) made ∙ distinct_added limit (take n before) x parts.2 in (
-          lawful_from same limit after r (long ∙ parts.0) (omega arith) once,
-          made,
-          subst (Adds limit (take n before) x) (sym made) (adds limit (take n before) x some (omega (arith, length-take-le n before)) parts.2),
-        )
+    -- the slots hold the list when the newest stands in the slot that was made free
+    pub held_added : (limit : ℕ) (unused : X) (slots made : List X) (count at : ℕ) (x : X)
+        → Held same limit unused slots count → 0 < length slots
+        → at ≡ cond (ltb count (length slots)) count (count - 1)
+        → made ≡ cond (ltb count (length slots)) slots (drop 1 slots ++ take 1 slots)
+        → length made ≡ length slots → member same x (take count slots) ≡ false
+        → Held same limit unused (set made at x) (at + 1)
+    held_added limit unused slots made count at x held some is made-is whole new =
+        let within : count ≤ length slots = omega (arith, held.bound, held.long) in
+        let in_slot = added_in_slot slots made count at x within some is made-is new in
+        let long : length (set made at x) ≡ limit = length-set made at x ∙ whole ∙ held.long in
+        record {
+          long = long;
+          bound = omega (arith, held.long, slot_within count at (length slots) within some is);
+          once = ap (distinct same) in_slot ∙ distinct_added (length slots) (take count slots) x held.once;
+          rest =
+              elim (cases_Bool (ltb count (length slots))) [
+                | inl e ↦
+                    let at_is = is ∙ cond-true (ltb count (length slots)) count (count - 1) e in
+                    let kept = made-is ∙ cond-true (ltb count (length slots)) slots _ e in
+                    (λ k. drop (at_is k + 1) (set (kept k) (at_is k) x))
+                    ∙ drop-set-lt (count + 1) slots count x (omega arith)
+                    ∙ drop_more_same slots (replicate limit unused) count (held.rest ∙ sym (drop-replicate count limit unused))
+                    ∙ drop-replicate (count + 1) limit unused
+                    ∙ ap (λ n. replicate (limit - (n + 1)) unused) (sym at_is)
+                | inr e ↦
+                    let at_is = is ∙ cond-false (ltb count (length slots)) count (count - 1) e in
+                    let full : count ≡ length slots = omega (arith, ltb-false count (length slots) e) in
+                    let none : limit - (at + 1) ≡ 0 = omega (arith, held.long) in
+                    drop_of_length-le (set made at x) (omega (arith, held.long)) ∙ ap (λ n. replicate n unused) (sym none)
+              ];
+        }

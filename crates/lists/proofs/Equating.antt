@@ -7,7 +7,7 @@ use Rattle.std.proofs.lemmas.Bool.{cases_Bool, cond-true, cond-false, cond_both}
 use Rattle.std.proofs.lemmas.Bool.Decides.{not_from_Decides}
 use Rattle.vocabulary.specs.declared.values.Plmn.{Plmn}
 use Rattle.vocabulary.specs.Same.{same_plmn}
-use Rattle.vocabulary.proofs.Equalities.{plmn_decides}
+use Rattle.vocabulary.specs.Told.{plmn_told}
 use Rattle.lists.specs.Lists.{member, distinct, added}
 use Rattle.lists.specs.Laws.{Among, Equates}
 use Rattle.lists.specs.Equivalents.{kept_one, kept_entries, followed_by, equivalents_from, given_entries}
@@ -61,11 +61,11 @@ among_push (x ∷ xs) (y ∷ ys) z (inr h) = inr (among_push (x ∷ xs) ys z h)
 with_once : (kept : List Plmn) (p : Plmn) → distinct same_plmn kept ≡ true → distinct same_plmn (followed_by kept p) ≡ true
 with_once kept p once =
     cond_both (member same_plmn p kept) kept (kept ++ p ∷ []) (λ l. distinct same_plmn l ≡ true) (λ _. once)
-    (λ e. distinct_push same_plmn plmn_decides kept p once e)
+    (λ e. distinct_push same_plmn plmn_told kept p once e)
 
 with_has : (kept : List Plmn) (p : Plmn) → Has (followed_by kept p) p
 with_has kept p =
-    cond_both (member same_plmn p kept) kept (kept ++ p ∷ []) (λ l. Has l p) (λ e. (member_decides same_plmn plmn_decides p kept).0 e) (λ _. has_push kept p)
+    cond_both (member same_plmn p kept) kept (kept ++ p ∷ []) (λ l. Has l p) (λ e. (member_decides same_plmn plmn_told p kept).0 e) (λ _. has_push kept p)
 
 with_stays : (kept : List Plmn) (p x : Plmn) → Has kept x → Has (followed_by kept p) x
 with_stays kept p x h =
@@ -80,7 +80,7 @@ by_forbidden : (P : List Plmn → Type 0) (forbidden kept : List Plmn) (p : Plmn
     → ((Has forbidden p → ⊥) → P (followed_by kept p)) → P (kept_one forbidden kept (Some p))
 by_forbidden P forbidden kept p there new =
     cond_both (member same_plmn p forbidden) kept (followed_by kept p) P (λ _. there)
-    (λ e. new (not_from_Decides (member same_plmn p forbidden) (member_decides same_plmn plmn_decides p forbidden) e))
+    (λ e. new (not_from_Decides (member same_plmn p forbidden) (member_decides same_plmn plmn_told p forbidden) e))
 
 with_among : (kept before : List Plmn) (p : Plmn) → Among kept before → Among (followed_by kept p) (before ++ p ∷ [])
 with_among kept before p h =
@@ -150,7 +150,7 @@ entries_complete forbidden kept (None ∷ more) x free h = entries_complete forb
 entries_complete forbidden kept (Some p ∷ more) x free h =
     elim (has_first_or_later p (given_entries more) x h.0 h.1 h.2) [
       | inl is ↦
-          let allowed = member_not same_plmn plmn_decides p forbidden (λ barred. free (subst (Has forbidden) is barred)) in
+          let allowed = member_not same_plmn plmn_told p forbidden (λ barred. free (subst (Has forbidden) is barred)) in
           entries_stay forbidden (kept_one forbidden kept (Some p)) more x
           (subst (λ l. Has l x) (sym (cond-false (member same_plmn p forbidden) kept (followed_by kept p) allowed))
           (subst (Has (followed_by kept p)) is (with_has kept p)))
@@ -163,7 +163,7 @@ equates entries forbidden accepted =
     let kept = kept_entries forbidden [] entries in
     record {
       once =
-          once_from_distinct same_plmn plmn_decides (followed_by kept accepted) (with_once kept accepted (entries_once forbidden [] entries refl));
+          once_from_distinct same_plmn plmn_told (followed_by kept accepted) (with_once kept accepted (entries_once forbidden [] entries refl));
       accepts = with_has kept accepted;
       allowed = λ x h barred.
           elim (with_cases kept accepted x h) [

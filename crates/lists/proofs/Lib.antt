@@ -1,5 +1,4 @@
 pub mod Additions
-pub mod Barring
 pub mod Equating
 pub mod Fresh
 pub mod Members

@@ -1,29 +1,16 @@
 -- What the tests on a list tell: that an entry is there, and that none stands twice.
-use Rattle.std.proofs.Common.{◌≡◌, ℕ, zero, suc, ◌<◌, ◌≤◌, Bool, true, false, not, eqb, leb, List, [], ◌∷◌, length, take, Decides, sym, refl, ap, ◌||◌, ◌∙◌, inl, inr, arith}
+use Rattle.std.proofs.Common.{◌≡◌, zero, suc, ◌<◌, Bool, true, false, not, List, [], ◌∷◌, length, Decides, sym, refl, ap, ◌||◌, ◌∙◌, inl, inr, arith}
 use Rattle.std.specs.List.{list_any, ContainsAt as Has}
 use Rattle.std.proofs.lemmas.List.{get_or_default}
-use Rattle.std.proofs.lemmas.Bool.{not-true, not_from_false, and_parts, and_from, cases_Bool, eqb-true, eq-eqb, leb-true, le-leb}
+use Rattle.std.proofs.lemmas.Bool.{not-true, not_from_false, and_parts, and_from, cases_Bool}
 use Rattle.std.proofs.lemmas.Bool.Decides.{Decides-by_or, not_from_Decides}
-use Rattle.lists.specs.Lists.{member, distinct, lawful_list}
+use Rattle.lists.specs.Lists.{member, distinct}
 use Rattle.lists.specs.Laws.{Once}
 
 -- the answer of `contains` is that of the test
 pub member_from_any : {X : Type 0} (E : X → X → Bool) (x : X) (xs : List X) → list_any (λ y. E y x) xs ≡ member E x xs
 member_from_any E x [] = refl
 member_from_any E x (y ∷ ys) = ap (λ b. E y x || b) (member_from_any E x ys)
-
--- a lawful list has its bound, and no entry twice
-pub lawful_parts : {X : Type 0} (same : X → X → Bool) (limit : ℕ) (slots : List X) (count : ℕ) → lawful_list same limit slots count ≡ true
-    → (length slots ≡ limit) × (count ≤ limit) × (distinct same (take count slots) ≡ true)
-lawful_parts same limit slots count h =
-    let whole = and_parts (eqb (length slots) limit) _ h in
-    let rest = and_parts (leb count limit) _ whole.1 in
-    (eqb-true (length slots) limit whole.0, leb-true count limit rest.0, rest.1)
-
-pub lawful_from : {X : Type 0} (same : X → X → Bool) (limit : ℕ) (slots : List X) (count : ℕ)
-    → length slots ≡ limit → count ≤ limit → distinct same (take count slots) ≡ true → lawful_list same limit slots count ≡ true
-lawful_from same limit slots count long bound once =
-    and_from (eqb (length slots) limit) _ (eq-eqb (length slots) limit long) (and_from (leb count limit) _ (le-leb count limit bound) once)
 
 module _ {X : Type 0} (same : X → X → Bool) (decides : (x y : X) → Decides (same x y) (x ≡ y)) where
   pub member_decides : (x : X) (xs : List X) → Decides (member same x xs) (Has xs x)

@@ -1,11 +1,14 @@
 -- What removing an entry does to the list.
-use Rattle.std.proofs.Common.{◌≡◌, ℕ, ◌≤◌, Bool, true, false, not, List, [], ◌∷◌, ◌++◌, length, take, Decides, filter, sym, refl, ap, ◌∙◌, subst, inl, inr, arith}
+use Rattle.std.proofs.Common.{◌≡◌, ℕ, ◌+◌, ◌<◌, ◌≤◌, Bool, true, false, cond, not, List, [], ◌∷◌, ◌++◌, length, get_or, take, drop, Decides, filter, sym, refl, ap, ◌∙◌, subst, inl, inr, arith, take-append-drop}
+use Rattle.std.proofs.lemmas.List.{append-nil, drop_more, length_push}
+use Rattle.std.proofs.lemmas.List.Elements.{filter_more}
 use Rattle.std.specs.List.{ContainsAt as Has}
 use Rattle.std.proofs.ByRecursion.{all-has, kept_by_passes}
 use Rattle.std.proofs.lemmas.Bool.{both_ways, not-true, not_from_true, not_from_false, and_parts, and_from, or_parts, or_from, or_cases, cases_Bool, cond-true, cond-false, cond_both, true≢false}
-use Rattle.lists.specs.Lists.{member, distinct, removed, lawful_list}
+use Rattle.lists.specs.Lists.{member, distinct, added, removed}
 use Rattle.lists.specs.Laws.{Removes}
-use Rattle.lists.proofs.Members.{member_decides, member_not, once_from_distinct, lawful_parts, lawful_from}
+use Rattle.lists.proofs.Fresh.{fresh, added_last}
+use Rattle.lists.proofs.Members.{member_decides, member_not, once_from_distinct}
 
 module _ {X : Type 0} (same : X → X → Bool) where
   member_kept_not : (p : X → Bool) (y : X) (xs : List X) → member same y xs ≡ false → member same y (filter p xs) ≡ false
@@ -68,13 +71,28 @@ module _ {X : Type 0} (same : X → X → Bool) where
           others = λ h. removed_others xs x once ((member_decides same decides x xs).1 h);
         }
 
-    -- what a program that removes in the slots has made
-    pub removes_in_slots : (limit : ℕ) (before : List X) (n : ℕ) (x : X) (after : List X) (r : ℕ)
-        → lawful_list same limit before n ≡ true → length after ≡ length before → r ≤ length after → take r after ≡ removed same (take n before) x
-        → (lawful_list same limit after r ≡ true) × Removes (take n before) x (take r after)
-    removes_in_slots limit before n x after r lawful long within is =
-        let parts = lawful_parts same limit before n lawful in
-        let once = ap (distinct same) is ∙ distinct_removed (take n before) x parts.2 in (
-          lawful_from same limit after r (long ∙ parts.0) (omega arith) once,
-          subst (Removes (take n before) x) (sym is) (removes (take n before) x parts.2),
+    -- a list that is built anew takes the next entry, unless it is the one to remove
+    pub removed_next : (limit : ℕ) (xs kept : List X) (i : ℕ) (x y : X) → distinct same xs ≡ true → length xs ≤ limit → i < length xs
+        → y ≡ get_or xs i y → same y x ≡ false → kept ≡ removed same (take i xs) x → length kept ≤ i
+        → (added same limit kept y ≡ removed same (take (i + 1) xs) x) × (length (added same limit kept y) ≤ i + 1)
+    unfolding removed
+    removed_next limit xs kept i x y once few within read other is short =
+        let p : X → Bool = λ z. not (same z x) in
+        let whole : xs ≡ take i xs ++ y ∷ drop (i + 1) xs =
+        sym (take-append-drop i xs) ∙ ap (λ l. take i xs ++ l) (drop_more xs i y within ∙ ap (λ z. z ∷ drop (i + 1) xs) (sym read)) in
+        let front = fresh same decides (take i xs) (drop (i + 1) xs) y (ap (distinct same) (sym whole) ∙ once) in
+        let new : member same y kept ≡ false = ap (member same y) is ∙ member_kept_not p y (take i xs) front in
+        let last = added_last same decides limit kept y new (omega arith) in
+        let more = filter_more p xs i y within ∙ ap (λ z. filter p (take i xs) ++ cond (p z) (z ∷ []) []) (sym read)
+        ∙ ap (λ l. filter p (take i xs) ++ l) (cond-true (p y) (y ∷ []) [] (not_from_false _ other)) in (
+          last ∙ ap (λ l. l ++ y ∷ []) is ∙ sym more,
+          omega (arith, ap length last, length_push kept y),
         )
+
+    pub removed_same : (xs kept : List X) (i : ℕ) (x y : X) → i < length xs → y ≡ get_or xs i y → same y x ≡ true
+        → kept ≡ removed same (take i xs) x → kept ≡ removed same (take (i + 1) xs) x
+    unfolding removed
+    removed_same xs kept i x y within read it is =
+        let p : X → Bool = λ z. not (same z x) in
+        is ∙ sym (filter_more p xs i y within ∙ ap (λ z. filter p (take i xs) ++ cond (p z) (z ∷ []) []) (sym read)
+        ∙ ap (λ l. filter p (take i xs) ++ l) (cond-false (p y) (y ∷ []) [] (not_from_true _ it)) ∙ append-nil (filter p (take i xs)))

@@ -1,5 +1,5 @@
 pub mod Bars
-pub mod Entries
 pub mod Equivalents
+pub mod Held
 pub mod Laws
 pub mod Lists

@@ -1,65 +1,57 @@
 // The networks that are as good as the one that accepted the modem.
 ghost use Rattle.std.specs.Prelude.{◌≡◌, ◌+◌, ◌<◌, ◌≤◌, [], length};
-ghost use Rattle.lists.specs.Entries.{plmns, equivalents};
-ghost use Rattle.lists.specs.Equivalents.{followed_by, kept_one, equivalents_from, given_entries};
+ghost use Rattle.lists.specs.Equivalents.{kept_one, equivalents_from, given_entries};
 ghost use Rattle.lists.specs.Laws.{Equates};
 
-use crate::plmn_bars::no_plmn;
-use crate::{EquivalentPlmns, PlmnBar, slices};
+use crate::{PlmnBar, Recent};
 use vocabulary::Plmn;
+
+// At most six networks: those that an accept gives, and last the one that accepts unless it is among them.
+#[derive(Clone, Copy)]
+pub struct EquivalentPlmns {
+    networks: Recent<Plmn, 6>,
+}
 
 impl EquivalentPlmns {
     pub fn empty() -> EquivalentPlmns
-        ensures value { equivalents result ≡ [] }
+        ensures value { result.networks ≡ [] }
     {
         EquivalentPlmns {
-            slots: [no_plmn(); 6],
-            count: 0,
+            networks: Recent::empty(),
         }
     }
 
     // The networks in the order in which they were given, and last the accepted one if it was not among them.
     pub fn entries(&self) -> &[Plmn]
-        ensures value { result.now ≡ equivalents self.now }
+        ensures value { result.now ≡ self.now.networks }
     {
-        &self.slots[0..self.count]
+        self.networks.entries()
     }
 
     // The list that an accept makes: of the networks that it gives, those that are not forbidden, none twice, and last
     // the network that accepts, unless it is among them.
     pub fn new(given: &[Option<Plmn>; 5], forbidden: &PlmnBar, accepted: Plmn) -> EquivalentPlmns
-        ensures value { equivalents result ≡ equivalents_from given.now (plmns forbidden.now) accepted }
-        ensures law { Equates (given_entries given.now) (plmns forbidden.now) accepted (equivalents result) }
+        ensures value { result.networks ≡ equivalents_from given.now forbidden.now accepted }
+        ensures law { Equates (given_entries given.now) forbidden.now accepted result.networks }
     {
-        let mut list = EquivalentPlmns::empty();
+        let mut networks = Recent::empty();
         for entry in given {
-            list.keep(*entry, forbidden);
+            keep(&mut networks, *entry, forbidden);
         }
-        list.append(accepted);
-        list
+        networks.add(accepted);
+        EquivalentPlmns { networks }
     }
+}
 
-    // Takes up an entry of an accept, unless its network is there or forbidden.
-    fn keep(&mut self, entry: Option<Plmn>, forbidden: &PlmnBar)
-        requires room { length (equivalents self.old) < 6 }
-        ensures after { equivalents self.new ≡ kept_one (plmns forbidden.now) (equivalents self.old) entry }
-        ensures bound { length (equivalents self.new) ≤ length (equivalents self.old) + 1 }
-    {
-        if let Some(plmn) = entry {
-            if !forbidden.contains(&plmn) {
-                self.append(plmn);
-            }
+// Takes up an entry of an accept, unless its network is there or forbidden.
+fn keep(networks: &mut Recent<Plmn, 6>, entry: Option<Plmn>, forbidden: &PlmnBar)
+    requires room { length networks.old < 6 }
+    ensures after { networks.new ≡ kept_one forbidden.now networks.old entry }
+    ensures bound { length networks.new ≤ length networks.old + 1 }
+{
+    if let Some(plmn) = entry {
+        if !forbidden.contains(&plmn) {
+            networks.add(plmn);
         }
-    }
-
-    // Makes a network the last, unless it is there.
-    fn append(&mut self, plmn: Plmn)
-        requires room { length (equivalents self.old) < 6 }
-        ensures after { equivalents self.new ≡ followed_by (equivalents self.old) plmn }
-        ensures bound { length (equivalents self.new) ≤ length (equivalents self.old) + 1 }
-    {
-        let mut slots = self.slots;
-        let count = slices::add(&mut slots, self.count, plmn);
-        *self = EquivalentPlmns { slots, count };
     }
 }

@@ -1,14 +1,20 @@
 // The lists that network selection reads: the bars and the equivalent networks.
 #![tactic(auto)]
 
-mod area_bars;
 mod bars;
 mod equivalents;
-mod plmn_bars;
-mod slices;
-mod values;
+mod recent;
 
-pub use values::{AreaBar, Bars, EquivalentPlmns, PlmnBar};
+pub use bars::Bars;
+pub use equivalents::EquivalentPlmns;
+pub use recent::Recent;
+use vocabulary::{Lai, Plmn};
+
+// At most four networks: those that are forbidden, or those that are forbidden for GPRS.
+pub type PlmnBar = Recent<Plmn, 4>;
+
+// At most ten location areas: those where regional service is not allowed, or those where roaming is not.
+pub type AreaBar = Recent<Lai, 10>;
 
 // The lists by name.
 pub type ForbiddenPlmns = PlmnBar;

@@ -1,13 +1,13 @@
 // What is done with any store, proved once for all of them.
 ghost use Rattle.std.specs.Prelude.{◌≡◌, Ok};
-ghost use Rattle.stores.specs.Slots.{whole, asked, copying, copied};
+ghost use Rattle.stores.specs.Slots.{asked, copying, copied};
 
 use crate::{CardReader, CardStore, StoreFault};
 use card::Card;
 
 // The whole card, asked part by part; the store is not touched.
 pub fn whole_card<R: CardReader>(reader: &R) -> Result<Card, StoreFault>
-    ensures answer { whole result ≡ asked (λ c. c) (R.CardReader.slot reader.now) }
+    ensures answer { result ≡ asked (λ c. c) (R.CardReader.slot reader.now) }
 {
     let imsi = reader.imsi()?;
     let packet = reader.packet()?;

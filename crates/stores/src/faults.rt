@@ -4,7 +4,7 @@ ghost use Rattle.stores.specs.Numbers.{store_refusal};
 
 use vocabulary::{Layer, Refusal};
 
-#[derive(Clone, Copy)]
+#[derive(Clone, Copy, PartialEq, Eq)]
 pub enum StoreFault {
     // The slot is empty: nothing can be asked, written or ejected.
     NoCard,
@@ -12,12 +12,12 @@ pub enum StoreFault {
     SlotFull,
 }
 
-impl StoreFault {
-    // The number, the layer and the octet that the host is told.
-    pub fn refusal(self) -> Refusal
-        ensures value { result ≡ store_refusal self }
-    {
-        match self {
+// The number, the layer and the octet that the host is told: the same for both.
+impl From<StoreFault> for Refusal {
+    ghost from_gives = { λ fault refusal. refusal ≡ store_refusal fault };
+
+    fn from(fault: StoreFault) -> Refusal {
+        match fault {
             StoreFault::NoCard | StoreFault::SlotFull => Refusal {
                 number: 3,
                 layer: Layer::Store,

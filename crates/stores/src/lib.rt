@@ -8,6 +8,7 @@ mod laws;
 mod plain;
 mod steps;
 mod stores;
+mod trays;
 
 pub use copying::{copy_card, whole_card};
 pub use faults::StoreFault;
@@ -16,3 +17,4 @@ pub use laws::slot_laws_hold;
 pub use plain::PlainStore;
 pub use steps::{Step, take_step};
 pub use stores::{CardReader, CardStore};
+pub use trays::Tray;

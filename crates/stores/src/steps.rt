@@ -1,9 +1,7 @@
 // One step of a card's day, on any store.
 ghost use Rattle.std.specs.Prelude.{◌≡◌};
-ghost use Rattle.vocabulary.specs.Same.{same_plmn};
-ghost use Rattle.lists.specs.Lists.{added, removed};
-ghost use Rattle.stores.specs.Slots.{needing, written, put_forbidden};
-ghost use Rattle.stores.specs.Steps.{step_answer, step_after};
+ghost use Rattle.stores.specs.Slots.{needing};
+ghost use Rattle.stores.specs.Steps.{Relisted, step_answer, step_after};
 
 use crate::{CardReader, CardStore, StoreFault};
 use card::{Card, PacketRecord, Record};
@@ -25,22 +23,17 @@ pub enum Step {
     Permit(Plmn),
 }
 
-fn forbid<S: CardStore>(store: &mut S, plmn: Plmn) -> Result<(), StoreFault>
+// Makes another list of the forbidden networks of the card.
+fn relist<S: CardStore, F: FnOnce(PlmnBar) -> PlmnBar>(
+    store: &mut S,
+    change: F,
+) -> Result<(), StoreFault>
+    requires { F.IsAlwaysCallable change }
     ensures answer { result ≡ needing (S.CardReader.slot store.old) }
-    ensures after { S.CardReader.slot store.new ≡ written (λ c. put_forbidden (added same_plmn 4 c.forbidden plmn) c) (S.CardReader.slot store.old) }
+    ensures after { Relisted (F.post change) (S.CardReader.slot store.old) (S.CardReader.slot store.new) }
 {
-    let mut list = store.forbidden()?;
-    list.add(plmn);
-    store.write_forbidden(list)
-}
-
-fn permit<S: CardStore>(store: &mut S, plmn: Plmn) -> Result<(), StoreFault>
-    ensures answer { result ≡ needing (S.CardReader.slot store.old) }
-    ensures after { S.CardReader.slot store.new ≡ written (λ c. put_forbidden (removed same_plmn c.forbidden plmn) c) (S.CardReader.slot store.old) }
-{
-    let mut list = store.forbidden()?;
-    list.remove(plmn);
-    store.write_forbidden(list)
+    let list = store.forbidden()?;
+    store.write_forbidden(change(list))
 }
 
 // Takes a step on a store; a refused one changes nothing.
@@ -55,7 +48,13 @@ pub fn take_step<S: CardStore>(store: &mut S, step: &Step) -> Result<(), StoreFa
         Step::WritePacket(part) => store.write_packet(*part),
         Step::WriteCircuit(part) => store.write_circuit(*part),
         Step::WriteForbidden(part) => store.write_forbidden(*part),
-        Step::Forbid(plmn) => forbid(store, *plmn),
-        Step::Permit(plmn) => permit(store, *plmn),
+        Step::Forbid(plmn) => relist(store, |mut list| {
+            list.add(*plmn);
+            list
+        }),
+        Step::Permit(plmn) => relist(store, |mut list| {
+            list.remove(*plmn);
+            list
+        }),
     }
 }

@@ -1,8 +1,7 @@
 // The interface of a card store. Its meaning is a slot, which is empty or holds a card.
-ghost use Rattle.std.specs.Prelude.{◌≡◌};
-ghost use Rattle.lists.specs.Entries.{plmns};
-ghost use Rattle.card.specs.Contents.{contents};
-ghost use Rattle.stores.specs.Slots.{Slot, Empty, filled, asked, listed, loading, loaded, needing, written, put_imsi, put_packet, put_circuit, put_forbidden};
+ghost use Rattle.std.specs.Prelude.{◌≡◌, None};
+ghost use Rattle.std.specs.Option.{is_some};
+ghost use Rattle.stores.specs.Slots.{Slot, asked, loading, loaded, needing, written, put_imsi, put_packet, put_circuit, put_forbidden};
 
 use crate::StoreFault;
 use card::{Card, PacketRecord, Record};
@@ -15,7 +14,7 @@ pub trait CardReader {
     ghost slot: { Self → Slot };
 
     fn has_card(&self) -> bool
-        ensures answer { result ≡ filled (slot self.now) };
+        ensures answer { result ≡ is_some (slot self.now) };
 
     fn imsi(&self) -> Result<Imsi, StoreFault>
         ensures answer { result ≡ asked (λ c. c.imsi) (slot self.now) };
@@ -27,7 +26,7 @@ pub trait CardReader {
         ensures answer { result ≡ asked (λ c. c.circuit) (slot self.now) };
 
     fn forbidden(&self) -> Result<PlmnBar, StoreFault>
-        ensures answer { listed result ≡ asked (λ c. c.forbidden) (slot self.now) };
+        ensures answer { result ≡ asked (λ c. c.forbidden) (slot self.now) };
 }
 
 // A store that can be written, too. Loading is refused exactly if there is a card, the other calls exactly if there is none;
@@ -35,11 +34,11 @@ pub trait CardReader {
 pub trait CardStore: CardReader {
     fn load(&mut self, card: Card) -> Result<(), StoreFault>
         ensures answer { result ≡ loading (Self.CardReader.slot self.old) }
-        ensures after { Self.CardReader.slot self.new ≡ loaded (contents card) (Self.CardReader.slot self.old) };
+        ensures after { Self.CardReader.slot self.new ≡ loaded card (Self.CardReader.slot self.old) };
 
     fn eject(&mut self) -> Result<(), StoreFault>
         ensures answer { result ≡ needing (Self.CardReader.slot self.old) }
-        ensures after { Self.CardReader.slot self.new ≡ Empty };
+        ensures after { Self.CardReader.slot self.new ≡ None };
 
     fn write_imsi(&mut self, part: Imsi) -> Result<(), StoreFault>
         ensures answer { result ≡ needing (Self.CardReader.slot self.old) }
@@ -55,5 +54,5 @@ pub trait CardStore: CardReader {
 
     fn write_forbidden(&mut self, part: PlmnBar) -> Result<(), StoreFault>
         ensures answer { result ≡ needing (Self.CardReader.slot self.old) }
-        ensures after { Self.CardReader.slot self.new ≡ written (put_forbidden (plmns part)) (Self.CardReader.slot self.old) };
+        ensures after { Self.CardReader.slot self.new ≡ written (put_forbidden part) (Self.CardReader.slot self.old) };
 }

@@ -1,5 +1,4 @@
 use Rattle.std.proofs.Common.{[], ◌∷◌, ◌++◌, ap, ◌∙◌}
-use Rattle.card.specs.Contents.{contents}
 use Rattle.card_image.specs.Layout.{image}
 use Rattle.card_image.specs.Meaning.{contents_in}
 use Rattle.card_image.proofs.Meant.{card_lawful, one_card}
@@ -10,12 +9,12 @@ pub returns : goal.returns
 unfolding image
 returns c =
     let card = c.args.card.now in
-    let lawful = card_lawful card c.packet_octets.ensures.fits c.circuit_octets.ensures.fits in
+    let lawful = card_lawful card c.forbidden_octets.ensures.bound c.forbidden_octets.ensures.once c.packet_octets.ensures.fits c.circuit_octets.ensures.fits in
     let value = c.joined.ensures.value
     ∙ (λ k. c.octets.ensures.value k ++ (c.packet_octets.ensures.value k ++ (c.circuit_octets.ensures.value k ++ (c.forbidden_octets.ensures.value k
     ++ c.written.ensures.value k ∷ c.written-2.ensures.value k ∷ [])))) in
     record {
       value = value;
-      back = ap contents_in value ∙ image_read (contents card) lawful;
-      unique = λ other other_lawful e. one_card other (contents card) other_lawful lawful (e ∙ value);
+      back = ap contents_in value ∙ image_read card lawful;
+      unique = λ other other_lawful e. one_card other card other_lawful lawful (e ∙ value);
     }

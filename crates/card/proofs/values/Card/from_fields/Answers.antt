@@ -1,9 +1,6 @@
-use Rattle.card.specs.Given.{given}
-use Rattle.card.proofs.Keeping.{result_kept}
+use Rattle.std.proofs.Common.{rules}
+use Rattle.card.proofs.Keeping.{card_kept}
 use Rattle.card.proofs.values.Card.from_fields.Goals as goal
 
-pub returns : goal.returns
-returns c = record {
-  value = c.card_from.ensures.value;
-  kept = result_kept c.card_from.result (given c.args.fields.now) c.card_from.ensures.value;
-}
+pub returns-clause-kept : goal.returns-clause-kept
+returns-clause-kept c = card_kept _ _ (search rules)

@@ -1,0 +1,68 @@
+// The parts of a card that may be none.
+ghost use Rattle.std.specs.Prelude.{◌≡◌, Option};
+ghost use Rattle.vocabulary.specs.Places.{lai_in, rai_in};
+ghost use Rattle.identities.specs.Identities.{tmsi_when, signature_when};
+ghost use Rattle.card.specs.Given.{part_of};
+
+use identities::{Signature, Tmsi};
+use vocabulary::{Lai, Rai};
+
+// What a part is read of: bits, or octets.
+pub(crate) trait Part: Sized {
+    type Given;
+
+    ghost read: { Self.Given → Option Self };
+
+    fn read(given: Self::Given) -> Option<Self>
+        ensures value { result ≡ read given };
+}
+
+impl Part for Tmsi {
+    type Given = u32;
+
+    ghost read = { tmsi_when };
+
+    fn read(given: u32) -> Option<Tmsi> {
+        Tmsi::new(given)
+    }
+}
+
+impl Part for Signature {
+    type Given = u32;
+
+    ghost read = { signature_when };
+
+    fn read(given: u32) -> Option<Signature> {
+        Signature::new(given)
+    }
+}
+
+impl Part for Rai {
+    type Given = [u8; 6];
+
+    ghost read = { rai_in };
+
+    fn read(given: [u8; 6]) -> Option<Rai> {
+        Rai::from_octets(given)
+    }
+}
+
+impl Part for Lai {
+    type Given = [u8; 5];
+
+    ghost read = { lai_in };
+
+    fn read(given: [u8; 5]) -> Option<Lai> {
+        Lai::from_octets(given)
+    }
+}
+
+// What is given as a value has to be one; a mark says none, and is no value.
+pub(crate) fn part_of<P: Part>(given: Option<P::Given>) -> Option<Option<P>>
+    ensures value { result ≡ part_of P.read given }
+{
+    match given {
+        Some(given) => Some(Some(P::read(given)?)),
+        None => Some(None),
+    }
+}
