@@ -4,7 +4,7 @@ ghost use Rattle.frames.specs.Elements.{nothing, walk};
 
 use crate::ElementFault;
 use crate::found::Found;
-use crate::tags::{Side, meaning, span_of};
+use crate::tags::{Known, Side, Tag};
 use std::ops::Range;
 
 // What is found in the elements after the fixed octets of a frame, or the octet at which it is cut short.
@@ -14,13 +14,18 @@ pub(crate) fn walk(side: Side, frame: &[u8], fixed: usize) -> Result<Found, Elem
 {
     let mut found = Found::default();
     let mut rest = &frame[fixed..];
-    while let [tag, after @ ..] = rest {
-        let Range { start, end } = span_of(side, *tag, after);
+    // How many octets an element takes is known once its tag is read, so patterns take the rest and no index is counted.
+    while let [octet, after @ ..] = rest {
+        let tag = Tag {
+            side,
+            octet: *octet,
+        };
+        let Range { start, end } = tag.span(after);
         if end > after.len() {
             return Err(ElementFault::Cut(frame.len() + 1));
         }
         let at = frame.len() - after.len();
-        found.note(meaning(side, *tag), &after[start..end], at);
+        found.note(Known::from(tag), &after[start..end], at);
         rest = &after[end..];
     }
     Ok(found)

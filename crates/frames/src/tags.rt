@@ -31,28 +31,39 @@ pub(crate) enum Known {
     BelowTen,
 }
 
-fn layout_of(side: Side, tag: u8) -> Layout
-    ensures { result ≡ layout_of side tag }
-{
-    match (side, tag) {
-        (_, 0x80..) => Layout::Alone,
-        (Side::Packet, 0x19) => Layout::Fixed(3),
-        (Side::Packet, 0x17 | 0x25) => Layout::Fixed(1),
-        _ => Layout::Lengthed,
+// A tag, on the side whose frames it stands in.
+#[derive(Clone, Copy, PartialEq, Eq, Debug)]
+pub(crate) struct Tag {
+    pub side: Side,
+    pub octet: u8,
+}
+
+impl From<Tag> for Layout {
+    ghost from_gives = { λ tag layout. layout ≡ layout_of tag.side tag.octet };
+
+    fn from(tag: Tag) -> Layout {
+        match (tag.side, tag.octet) {
+            (_, 0x80..) => Layout::Alone,
+            (Side::Packet, 0x19) => Layout::Fixed(3),
+            (Side::Packet, 0x17 | 0x25) => Layout::Fixed(1),
+            _ => Layout::Lengthed,
+        }
     }
 }
 
-pub(crate) fn meaning(side: Side, tag: u8) -> Known
-    ensures { result ≡ meaning side tag }
-{
-    match (side, tag) {
-        (Side::Packet, 0x19) => Known::PTmsiSignature,
-        (Side::Packet, 0x18) => Known::PTmsi,
-        (Side::Packet, 0x2a) => Known::T3302,
-        (Side::Circuit, 0x17) => Known::Identity,
-        (_, 0x4a) => Known::Equivalents,
-        (_, 0x00..=0x0f) => Known::BelowTen,
-        _ => Known::Skipped,
+impl From<Tag> for Known {
+    ghost from_gives = { λ tag known. known ≡ meaning tag.side tag.octet };
+
+    fn from(tag: Tag) -> Known {
+        match (tag.side, tag.octet) {
+            (Side::Packet, 0x19) => Known::PTmsiSignature,
+            (Side::Packet, 0x18) => Known::PTmsi,
+            (Side::Packet, 0x2a) => Known::T3302,
+            (Side::Circuit, 0x17) => Known::Identity,
+            (_, 0x4a) => Known::Equivalents,
+            (_, 0x00..=0x0f) => Known::BelowTen,
+            _ => Known::Skipped,
+        }
     }
 }
 
@@ -63,16 +74,18 @@ fn length_octet(after: &[u8]) -> u8
     after.first().copied().unwrap_or(0)
 }
 
-// Where the value of an element begins and ends, counted from the octet after the tag.
-pub(crate) fn span_of(side: Side, tag: u8, after: &[u8]) -> Range<usize>
-    ensures from { result.start ≡ begin (layout_of side tag) }
-    ensures to { result.end ≡ end (layout_of side tag) after.now }
-    ensures ordered { result.start ≤ result.end }
-    ensures bound { result.end ≤ 256 }
-{
-    match layout_of(side, tag) {
-        Layout::Alone => 0..0,
-        Layout::Fixed(octets) => 0..octets,
-        Layout::Lengthed => 1..1 + usize::from(length_octet(after)),
+impl Tag {
+    // Where the value of its element begins and ends, counted from the octet after the tag.
+    pub(crate) fn span(self, after: &[u8]) -> Range<usize>
+        ensures from { result.start ≡ begin (layout_of self.side self.octet) }
+        ensures to { result.end ≡ end (layout_of self.side self.octet) after.now }
+        ensures ordered { result.start ≤ result.end }
+        ensures bound { result.end ≤ 256 }
+    {
+        match Layout::from(self) {
+            Layout::Alone => 0..0,
+            Layout::Fixed(octets) => 0..octets,
+            Layout::Lengthed => 1..1 + usize::from(length_octet(after)),
+        }
     }
 }

@@ -14,6 +14,7 @@ use crate::{
 };
 use vocabulary::{Lai, Rai};
 
+// Each of these takes one message apart and lends its parts to the area: a struct of what is sent and where would serve one call.
 fn attach_request(
     terminal: &Terminal,
     stored: &PacketStored,
