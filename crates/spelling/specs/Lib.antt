@@ -1,3 +1,4 @@
 pub mod Digits
 pub mod Octets
+pub mod Sized
 pub mod Words

@@ -1,5 +1,7 @@
 -- What a text spells in hexadecimal: two digits to an octet, spaces between octets, and a comment from '#' on.
-use Rattle.std.specs.Prelude.{ℕ, ◌+◌, ◌-◌, ◌*◌, Bool, true, cond, ◌&&◌, ◌||◌, List, [], ◌∷◌, ◌++◌, Some, None, Ok, Err, vec_items, Option, Result, Vec, ◌==◌, nat_le, nat_lt}
+use Rattle.std.specs.Prelude.{◌≡◌, ℕ, ◌+◌, ◌-◌, ◌*◌, Bool, cond, ◌&&◌, ◌||◌, List, [], ◌∷◌, ◌++◌, Some, None, Ok, Err, vec_items, Option, Result, Vec, ◌==◌, nat_le}
+use Rattle.spelling.specs.declared.failed.Failed.{Failed}
+use Rattle.spelling.specs.declared.failed.Failed.TheVariants as failed
 use Rattle.spelling.specs.declared.octets.Misspelled.{Misspelled}
 use Rattle.spelling.specs.declared.octets.Misspelled.TheVariants.{OddDigits, NotHexadecimal}
 use Rattle.spelling.specs.declared.octets.Step.{Step}
@@ -10,11 +12,6 @@ abbrev pub digit_of : ℕ → Option ℕ
 digit_of c =
     cond (nat_le 48 c && nat_le c 57) (Some (c - 48))
     (cond (nat_le 65 c && nat_le c 70) (Some (c - 65 + 10)) (cond (nat_le 97 c && nat_le c 102) (Some (c - 97 + 10)) None))
-
--- a digit is below 16
-abbrev pub small : Option ℕ → Bool
-small None = true
-small (Some h) = nat_lt h 16
 
 abbrev pub space : ℕ → Bool
 space c = c == 32 || (c == 9 || c == 13)
@@ -28,14 +25,6 @@ taken high c = by high (digit_of c)
     by None (Some h) = High h
     by None None = cond (space c) Space (cond (c == 35) Comment (Bad NotHexadecimal))
     by (Some h) None = cond (space c || c == 35) (Bad OddDigits) (Bad NotHexadecimal)
-
--- the high digit after a step is below 16 as well
-abbrev pub small_after : Option ℕ → Step → Bool
-small_after high Space = small high
-small_after high (High h) = small (Some h)
-small_after high (Octet x) = true
-small_after high Comment = true
-small_after high (Bad reason) = true
 
 -- at the end no high digit is left over
 abbrev pub ended : List ℕ → Option ℕ → Result (List ℕ) Misspelled
@@ -59,6 +48,12 @@ spelled done high (c ∷ cs) = stepped done high (taken high c) (λ d h. spelled
 abbrev pub octets_in : {Z : Type 0} → Result (Vec ℕ Z) Misspelled → Result (List ℕ) Misspelled
 octets_in (Ok v) = Ok (vec_items v)
 octets_in (Err reason) = Err reason
+
+-- a text is read as it spells; where memory is short, nothing is said of it
+abbrev pub Spells : {Z : Type 0} → Result (Vec ℕ Z) (Failed Misspelled) → Result (List ℕ) Misspelled → Type 0
+Spells (Ok v) r = r ≡ Ok (vec_items v)
+Spells (Err (failed.Bad reason)) r = r ≡ Err reason
+Spells (Err (failed.Memory error)) r = Unit
 
 -- the octets that a text spells; no octets where it spells none
 abbrev pub octets_or_none : List ℕ → List ℕ

@@ -18,9 +18,7 @@ fn digit_value(character: u8) -> u8
 pub fn digits_in(heap: Global, text: &[u8]) -> Result<Vec<u8>, AllocError>
     ensures value { IfOk result (λ v. v.items ≡ map digit_value text.now) }
 {
-    let mut digits = Vec::new(heap);
-    for character in text {
-        digits.push(digit_value(*character))?;
-    }
-    Ok(digits)
+    text.iter()
+        .map(|character| digit_value(*character))
+        .collect(heap)
 }

@@ -1,8 +1,13 @@
 // What a text spells: octets in hexadecimal, and decimal digits.
 #![tactic(auto)]
 
+mod digit;
 mod digits;
+mod failed;
 mod octets;
+mod sized;
 
 pub use digits::digits_in;
+pub use failed::Failed;
 pub use octets::{Misspelled, octets_or_none, spelled};
+pub use sized::octets_in;

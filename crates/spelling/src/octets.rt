@@ -1,11 +1,14 @@
 // The octets that a text spells in hexadecimal.
-ghost use Rattle.std.specs.Prelude.{◌≡◌, true, [], IfOk, None};
-ghost use Rattle.spelling.specs.Octets.{digit_of, small, taken, small_after, ended, octets_in, spelled, octets_or_none};
+ghost use Rattle.std.specs.Prelude.{◌≡◌, [], IfOk, None};
+ghost use Rattle.spelling.specs.Octets.{digit_of, taken, ended, octets_in, spelled, Spells, octets_or_none};
+ghost use Rattle.spelling.specs.declared.failed.Failed.TheVariants.{Bad};
 
+use crate::digit::{Digit, digit_of};
+use crate::failed::Failed;
 use std::alloc::{AllocError, Global};
 
 // Why a text spells no octets.
-#[derive(Clone, Copy)]
+#[derive(Clone, Copy, PartialEq, Eq, Debug)]
 pub enum Misspelled {
     // A digit that stands alone: an octet has two.
     OddDigits,
@@ -13,36 +16,30 @@ pub enum Misspelled {
     NotHexadecimal,
 }
 
+impl From<Misspelled> for Failed<Misspelled> {
+    ghost from_gives = { λ reason failed. failed ≡ Bad reason };
+
+    fn from(reason: Misspelled) -> Failed<Misspelled> {
+        Failed::Bad(reason)
+    }
+}
+
 // What a character adds to the octets so far.
 #[derive(Clone, Copy)]
 pub(crate) enum Step {
     Space,
-    High(u8),
+    High(Digit),
     Octet(u8),
     Comment,
     Bad(Misspelled),
 }
 
-fn digit_of(character: u8) -> Option<u8>
-    ensures value { result ≡ digit_of character }
-    ensures bound { small result ≡ true }
-{
-    match character {
-        b'0'..=b'9' => Some(character - b'0'),
-        b'A'..=b'F' => Some(character - b'A' + 10),
-        b'a'..=b'f' => Some(character - b'a' + 10),
-        _ => None,
-    }
-}
-
 // The next character, after the high digit of an octet or between octets.
-fn taken(high: Option<u8>, character: u8) -> Step
-    requires { small high ≡ true }
-    ensures value { result ≡ taken high character }
-    ensures bound { small_after high result ≡ true }
+fn taken(high: &Option<Digit>, character: u8) -> Step
+    ensures value { result ≡ taken high.now character }
 {
     match (high, digit_of(character), character) {
-        (Some(high), Some(low), _) => Step::Octet(high * 16 + low),
+        (Some(high), Some(low), _) => Step::Octet(high.octet(low)),
         (None, Some(digit), _) => Step::High(digit),
         (None, None, b' ' | b'\t' | b'\r') => Step::Space,
         (None, None, b'#') => Step::Comment,
@@ -51,7 +48,7 @@ fn taken(high: Option<u8>, character: u8) -> Step
     }
 }
 
-fn ended(octets: Vec<u8>, high: Option<u8>) -> Result<Vec<u8>, Misspelled>
+fn ended(octets: Vec<u8>, high: Option<Digit>) -> Result<Vec<u8>, Misspelled>
     ensures value { octets_in result ≡ ended octets.items high }
 {
     match high {
@@ -61,32 +58,34 @@ fn ended(octets: Vec<u8>, high: Option<u8>) -> Result<Vec<u8>, Misspelled>
 }
 
 // The octets of a text, or why it spells none.
-pub fn spelled(heap: Global, text: &[u8]) -> Result<Result<Vec<u8>, Misspelled>, AllocError>
-    ensures value { IfOk result (λ x. octets_in x ≡ spelled [] None text.now) }
+#[tactic(auto, using(crate::proofs::Spells::spelling_steps))]
+pub fn spelled(heap: Global, text: &[u8]) -> Result<Vec<u8>, Failed<Misspelled>>
+    ensures value { Spells result (spelled [] None text.now) }
 {
     let mut octets = Vec::new(heap);
     let mut high = None;
     for character in text {
-        match taken(high, *character) {
-            Step::Space => {}
-            Step::High(digit) => high = Some(digit),
+        high = match taken(&high, *character) {
+            Step::Space => high,
+            Step::High(digit) => Some(digit),
             Step::Octet(octet) => {
                 octets.push(octet)?;
-                high = None;
+                None
             }
-            Step::Comment => return Ok(Ok(octets)),
-            Step::Bad(reason) => return Ok(Err(reason)),
+            Step::Comment => return Ok(octets),
+            Step::Bad(reason) => return Err(Failed::Bad(reason)),
         }
     }
-    Ok(ended(octets, high))
+    Ok(ended(octets, high)?)
 }
 
 // The octets that a text spells, or no octets.
 pub fn octets_or_none(heap: Global, text: &[u8]) -> Result<Vec<u8>, AllocError>
     ensures value { IfOk result (λ v. v.items ≡ octets_or_none text.now) }
 {
-    match spelled(heap, text)? {
+    match spelled(heap, text) {
         Ok(octets) => Ok(octets),
-        Err(_) => Ok(Vec::new(heap)),
+        Err(Failed::Bad(_)) => Ok(Vec::new(heap)),
+        Err(Failed::Memory(error)) => Err(error),
     }
 }

@@ -1,7 +1,7 @@
-use Rattle.std.proofs.Common.{◌≡◌, true, [], drop, None, vec_items}
-use Rattle.spelling.specs.Octets.{spelled, small}
+use Rattle.std.proofs.Common.{◌≡◌, [], drop, None, vec_items}
+use Rattle.spelling.specs.Octets.{spelled}
 use Rattle.spelling.proofs.octets.spelled.Given as goal
 
--- what is left gives the answer, and the high digit is a digit
+-- what is left gives the answer
 abbrev pub invariant-loop-character : goal.invariant-loop-character
-invariant-loop-character l = (spelled (vec_items l.octets) l.high (drop l.character-index l.text) ≡ spelled [] None l.text) × (small l.high ≡ true)
+invariant-loop-character l = spelled (vec_items l.octets) l.high (drop l.character-index l.text) ≡ spelled [] None l.text

@@ -1,0 +1,28 @@
+// Why a text gives nothing.
+ghost use Rattle.std.specs.Prelude.{◌≡◌, alloc_error};
+ghost use Rattle.spelling.specs.declared.failed.Failed.TheVariants.{Memory};
+
+use std::alloc::{AllocError, AllocFailed};
+
+// The text is bad, or memory is short.
+#[derive(Clone, Copy, PartialEq, Eq, Debug)]
+pub enum Failed<F> {
+    Bad(F),
+    Memory(AllocError),
+}
+
+impl<F> From<AllocError> for Failed<F> {
+    ghost from_gives = { λ error failed. failed ≡ Memory error };
+
+    fn from(error: AllocError) -> Failed<F> {
+        Failed::Memory(error)
+    }
+}
+
+impl<F, T: Drop> From<AllocFailed<T>> for Failed<F> {
+    ghost from_gives = { λ _ failed. failed ≡ Memory alloc_error };
+
+    fn from(_: AllocFailed<T>) -> Failed<F> {
+        Failed::Memory(AllocError)
+    }
+}
