@@ -1,5 +1,5 @@
 // What is answered to a line.
-ghost use Rattle.std.specs.Prelude.{◌≡◌};
+ghost use Rattle.std.specs.Prelude.{◌≡◌, take};
 ghost use Rattle.answers.specs.Answers.{frame_answer, message_answer, answer_to};
 
 use crate::{BadLine, Line};
@@ -7,10 +7,19 @@ use frames::{Downlink, Uplink};
 use vocabulary::Refusal;
 
 // The octets of a message: the first `len` of the area.
-#[derive(Clone, Copy)]
+// An area with a length beside it, since an answer is copied and cannot fail, as what is on the heap may.
+#[derive(Clone, Copy, PartialEq, Eq, Debug)]
 pub struct Octets {
     pub area: [u8; 64],
     pub len: usize,
+}
+
+impl Octets {
+    pub fn as_slice(&self) -> &[u8]
+        ensures value { result.now ≡ take self.now.len self.now.area }
+    {
+        self.area.get(..self.len).unwrap_or(&self.area)
+    }
 }
 
 #[derive(Clone, Copy)]

@@ -18,10 +18,10 @@ use Rattle.answers.specs.declared.asked.BadLine.TheVariants.{BadValue, NoImsi}
 use Rattle.answers.specs.declared.asked.Name.{Name}
 use Rattle.answers.specs.declared.asked.Name.TheVariants as name
 use Rattle.lines.specs.declared.fields.Fields.{Fields}
-use Rattle.lines.specs.declared.fields.Kind.{Kind}
-use Rattle.lines.specs.declared.fields.Kind.TheVariants as kind
-use Rattle.lines.specs.declared.fields.TypeWord.{TypeWord}
-use Rattle.lines.specs.declared.fields.TypeWord.TheVariants as word
+use Rattle.lines.specs.declared.words.Kind.{Kind}
+use Rattle.lines.specs.declared.words.Kind.TheVariants as kind
+use Rattle.lines.specs.declared.words.TypeWord.{TypeWord}
+use Rattle.lines.specs.declared.words.TypeWord.TheVariants as word
 
 -- where a field stands: with every request that names the subscriber, on one side alone, or as the type
 pub data Place : Type 0 where

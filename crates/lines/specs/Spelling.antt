@@ -1,61 +1,14 @@
--- What a text spells in hexadecimal: two digits to an octet, spaces between octets, and a comment from '#' on.
-use Rattle.std.specs.Prelude.{ℕ, ◌+◌, ◌-◌, ◌*◌, Bool, true, cond, ◌&&◌, ◌||◌, List, [], ◌∷◌, ◌++◌, Some, None, Ok, Err, vec_items, Option, Result, Vec, ◌==◌, nat_le, nat_lt}
+-- What a line spells in hexadecimal: what its text spells, where a text that spells no octets is a bad line.
+use Rattle.std.specs.Prelude.{ℕ, List, Ok, Err, Option, Result}
+use Rattle.answers.specs.Words.{told}
 use Rattle.answers.specs.declared.asked.BadLine.{BadLine}
-use Rattle.answers.specs.declared.asked.BadLine.TheVariants.{OddDigits, NotHexadecimal}
-use Rattle.lines.specs.declared.spelling.Step.{Step}
-use Rattle.lines.specs.declared.spelling.Step.TheVariants.{Space, High, Octet, Comment, Bad}
+use Rattle.spelling.specs.Octets as text
+use Rattle.spelling.specs.declared.octets.Misspelled.{Misspelled}
 
--- 0 to 9, A to F and a to f
-abbrev pub digit_of : ℕ → Option ℕ
-digit_of c =
-    cond (nat_le 48 c && nat_le c 57) (Some (c - 48))
-    (cond (nat_le 65 c && nat_le c 70) (Some (c - 65 + 10)) (cond (nat_le 97 c && nat_le c 102) (Some (c - 97 + 10)) None))
-
--- a digit is below 16
-abbrev pub small : Option ℕ → Bool
-small None = true
-small (Some h) = nat_lt h 16
-
-abbrev pub space : ℕ → Bool
-space c = c == 32 || (c == 9 || c == 13)
-
--- a character between octets, and one after the high digit of an octet
-abbrev pub taken : Option ℕ → ℕ → Step
-taken high c = by high (digit_of c)
-  where
-    by : Option ℕ → Option ℕ → Step
-    by (Some h) (Some l) = Octet (h * 16 + l)
-    by None (Some h) = High h
-    by None None = cond (space c) Space (cond (c == 35) Comment (Bad NotHexadecimal))
-    by (Some h) None = cond (space c || c == 35) (Bad OddDigits) (Bad NotHexadecimal)
-
--- the high digit after a step is below 16 as well
-abbrev pub small_after : Option ℕ → Step → Bool
-small_after high Space = small high
-small_after high (High h) = small (Some h)
-small_after high (Octet x) = true
-small_after high Comment = true
-small_after high (Bad reason) = true
-
--- at the end no high digit is left over
-abbrev pub ended : List ℕ → Option ℕ → Result (List ℕ) BadLine
-ended done None = Ok done
-ended done (Some h) = Err OddDigits
-
--- what a step adds to the octets so far, where `rest` is told of what is left of the text
-abbrev pub stepped : List ℕ → Option ℕ → Step → (List ℕ → Option ℕ → Result (List ℕ) BadLine) → Result (List ℕ) BadLine
-stepped done high Space rest = rest done high
-stepped done high (High h) rest = rest done (Some h)
-stepped done high (Octet x) rest = rest (done ++ (x ∷ [])) None
-stepped done high Comment rest = Ok done
-stepped done high (Bad reason) rest = Err reason
+abbrev pub line_of : Result (List ℕ) Misspelled → Result (List ℕ) BadLine
+line_of (Ok octets) = Ok octets
+line_of (Err reason) = Err (told reason)
 
 -- what a text spells, after the octets so far and the high digit of the next one
-unfoldable pub spelled : List ℕ → Option ℕ → List ℕ → Result (List ℕ) BadLine
-spelled done high [] = ended done high
-spelled done high (c ∷ cs) = stepped done high (taken high c) (λ d h. spelled d h cs)
-
--- the octets that a vector holds
-abbrev pub octets_in : {Z : Type 0} → Result (Vec ℕ Z) BadLine → Result (List ℕ) BadLine
-octets_in (Ok v) = Ok (vec_items v)
-octets_in (Err reason) = Err reason
+abbrev pub spelled : List ℕ → Option ℕ → List ℕ → Result (List ℕ) BadLine
+spelled done high cs = line_of (text.spelled done high cs)

@@ -1,5 +1,5 @@
 -- The values that fields may have.
-use Rattle.std.specs.Prelude.{ℕ, ◌-◌, cond, ◌&&◌, List, [], map, length, Some, None, Ok, Err, Option, Result, ◌==◌, nat_le, slice_index}
+use Rattle.std.specs.Prelude.{ℕ, ◌-◌, cond, ◌&&◌, List, map, length, Some, None, Option, ◌==◌, nat_le, slice_index}
 use Rattle.identities.specs.Identities.{tmsi_of, signature_of, key_when, imsi_from}
 use Rattle.identities.specs.declared.values.Imsi.{Imsi}
 use Rattle.identities.specs.declared.values.KeyNumber.{KeyNumber}
@@ -8,16 +8,7 @@ use Rattle.vocabulary.specs.declared.values.Rai.{Rai}
 use Rattle.identities.specs.declared.values.Signature.{Signature}
 use Rattle.identities.specs.declared.values.Tmsi.{Tmsi}
 use Rattle.vocabulary.specs.Places as places
-use Rattle.lines.specs.Spelling.{spelled}
-use Rattle.answers.specs.declared.asked.BadLine.{BadLine}
-
--- the octets that a text spells; no octets where it spells none
-abbrev pub octets_or_none : List ℕ → List ℕ
-octets_or_none text = by (spelled [] None text)
-  where
-    by : Result (List ℕ) BadLine → List ℕ
-    by (Ok xs) = xs
-    by (Err reason) = []
+use Rattle.spelling.specs.Digits.{digit_value}
 
 -- a value of exactly n octets
 abbrev pub sized : {X : Type 0} → ℕ → List ℕ → Option X → Option X
@@ -38,16 +29,9 @@ lai_in xs = sized 5 xs (places.lai_in xs)
 abbrev pub octet_in : List ℕ → Option ℕ
 octet_in xs = sized 1 xs (Some (slice_index xs 0))
 
-abbrev pub octets_in : ℕ → List ℕ → Option (List ℕ)
-octets_in n xs = sized n xs (Some xs)
-
 -- one digit, 0 to 7: the last is none
 abbrev pub key_in : List ℕ → Option (Option KeyNumber)
 key_in text = sized 1 text (cond (nat_le 48 (slice_index text 0) && nat_le (slice_index text 0) 55) (Some (key_when (slice_index text 0 - 48))) None)
-
--- the value of a digit; any other character counts as the filler, which is no digit
-abbrev pub digit_value : ℕ → ℕ
-digit_value c = cond (nat_le 48 c && nat_le c 57) (c - 48) 15
 
 abbrev pub imsi_in : List ℕ → Option Imsi
 imsi_in text = imsi_from (map digit_value text)

@@ -3,6 +3,7 @@ ghost use Rattle.std.specs.Prelude.{◌≡◌, [], ◌∷◌, replicate, None};
 ghost use Rattle.std.specs.Option.{unwrap_or};
 ghost use Rattle.lines.specs.Fields.{belongs, packet_of, circuit_of, routing_of, location_of, detach_of, message_of};
 
+use crate::words::{Kind, TypeWord};
 use answers::{BadLine, Name};
 use frames::{
     CircuitStored, DetachType, LocationUpdate, PacketStored, RoutingUpdate, Terminal, Uplink,
@@ -10,30 +11,8 @@ use frames::{
 use identities::{Imsi, KeyNumber, Signature, Tmsi};
 use vocabulary::{Lai, Rai};
 
-#[derive(Clone, Copy)]
-pub(crate) enum Kind {
-    Attach,
-    Update,
-    Location,
-    Detach,
-    Indication,
-    AttachComplete,
-    UpdateComplete,
-    TmsiComplete,
-}
-
-// The types of updates and detaches, by their words on a line.
-#[derive(Clone, Copy)]
-pub(crate) enum TypeWord {
-    Normal,
-    Periodic,
-    ImsiAttach,
-    Gprs,
-    SwitchOff,
-}
-
 // What a line gives; a key that is given may still be none.
-#[derive(Clone, Copy)]
+#[derive(Clone, Copy, Default)]
 pub(crate) struct Fields {
     pub imsi: Option<Imsi>,
     pub tmsi: Option<Tmsi>,

@@ -3,8 +3,8 @@
 
 mod commands;
 mod fields;
-mod spelling;
 mod texts;
 mod values;
+mod words;
 
 pub use texts::line_in;

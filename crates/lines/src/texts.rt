@@ -1,33 +1,30 @@
 // A line of text: a frame in hexadecimal, or a message to be written.
 ghost use Rattle.std.specs.Prelude.{◌≡◌, false, [], IfOk, None};
-ghost use Rattle.lines.specs.Spelling.{octets_in, spelled};
+ghost use Rattle.lines.specs.Spelling.{spelled};
 ghost use Rattle.lines.specs.Asked.{Asks, command};
 
 use crate::commands::message_in;
-use crate::spelling::spelled;
-use answers::{BadLine, Line};
+use answers::Line;
+use spelling::{Failed, spelled};
 use std::alloc::{AllocError, Global};
 
-// What octets ask for, or why there are none.
-fn frame_line(octets: Result<Vec<u8>, BadLine>) -> Line
-    ensures value { Asks result (octets_in octets) }
+// The frame that octets in hexadecimal are, or why there are no octets.
+fn frame_line(heap: Global, text: &[u8]) -> Result<Line, AllocError>
+    ensures value { IfOk result (λ line. Asks line (spelled [] None text.now)) }
 {
-    match octets {
-        Ok(octets) => {
-            if octets.is_empty() {
-                Line::Blank
-            } else {
-                Line::Frame(octets)
-            }
-        }
-        Err(reason) => Line::Bad(reason),
+    match spelled(heap, text) {
+        Ok(octets) if octets.is_empty() => Ok(Line::Blank),
+        Ok(octets) => Ok(Line::Frame(octets)),
+        Err(Failed::Bad(reason)) => Ok(Line::Bad(reason.into())),
+        Err(Failed::Memory(error)) => Err(error),
     }
 }
 
 fn write_line(heap: Global, text: &str) -> Result<Line, AllocError> {
     match message_in(heap, text) {
         Ok(message) => Ok(Line::Write(message)),
-        Err(failed) => Ok(Line::Bad(failed.reason()?)),
+        Err(Failed::Bad(reason)) => Ok(Line::Bad(reason)),
+        Err(Failed::Memory(error)) => Err(error),
     }
 }
 
@@ -37,6 +34,6 @@ pub fn line_in(heap: Global, text: &str) -> Result<Line, AllocError>
 {
     match text.as_bytes() {
         [b'w', ..] => write_line(heap, text),
-        bytes => Ok(frame_line(spelled(heap, bytes)?)),
+        bytes => frame_line(heap, bytes),
     }
 }
