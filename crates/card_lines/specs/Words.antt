@@ -1,9 +1,15 @@
 -- The words of a line.
 use Rattle.std.specs.Prelude.{ℕ, List, codes}
-use Rattle.card_lines.specs.declared.commands.Verb.{Verb}
-use Rattle.card_lines.specs.declared.commands.Verb.TheVariants.{Load, Write, Eject, Forbid, Permit, Show, Octets, Copy, Damage}
-use Rattle.card_lines.specs.declared.faults.Part.{Part}
-use Rattle.card_lines.specs.declared.faults.Part.TheVariants.{Imsi, Packet, Circuit, Forbidden}
+use Rattle.card_lines.specs.declared.words.Verb.{Verb}
+use Rattle.card_lines.specs.declared.words.Verb.TheVariants.{Load, Write, Eject, Forbid, Permit, Show, Octets, Copy, Damage}
+use Rattle.card_lines.specs.declared.words.Kind.{Kind}
+use Rattle.card_lines.specs.declared.words.Kind.TheVariants.{Plain, Image}
+use Rattle.card_lines.specs.declared.words.Part.{Part}
+use Rattle.card_lines.specs.declared.words.Part.TheVariants.{Imsi, Packet, Circuit, Forbidden}
+
+abbrev pub kind_word : Kind → List ℕ
+kind_word Plain = codes "plain"
+kind_word Image = codes "image"
 
 abbrev pub part_word : Part → List ℕ
 part_word Imsi = codes "imsi"

@@ -1,15 +1,13 @@
 // Why a line is not understood.
+ghost use Rattle.std.specs.Prelude.{◌≡◌};
+ghost use Rattle.spelling.specs.declared.failed.Failed.TheVariants.{Bad};
 
-// The parts of a card, by their names on a line.
-#[derive(Clone, Copy)]
-pub enum Part {
-    Imsi,
-    Packet,
-    Circuit,
-    Forbidden,
-}
+use crate::Part;
+use spelling::Failed;
+use std::error::Error;
+use std::fmt;
 
-#[derive(Clone, Copy)]
+#[derive(Clone, Copy, PartialEq, Eq, Debug)]
 pub enum BadCommand {
     UnknownCommand,
     // The command wants a word behind it.
@@ -28,3 +26,30 @@ pub enum BadCommand {
     // Not 48 octets in hexadecimal.
     BadImage,
 }
+
+impl From<BadCommand> for Failed<BadCommand> {
+    ghost from_gives = { λ reason failed. failed ≡ Bad reason };
+
+    fn from(reason: BadCommand) -> Failed<BadCommand> {
+        Failed::Bad(reason)
+    }
+}
+
+impl fmt::Display for BadCommand {
+    fn fmt<W: fmt::Write>(&self, f: &mut fmt::Formatter<W>) -> fmt::Result {
+        match self {
+            BadCommand::UnknownCommand => write!(f, "unknown command"),
+            BadCommand::MissingWord => write!(f, "a word is missing"),
+            BadCommand::ExtraWord => write!(f, "a word too many"),
+            BadCommand::NoValue => write!(f, "a part is name=value"),
+            BadCommand::UnknownPart => write!(f, "unknown part"),
+            BadCommand::RepeatedPart(part) => write!(f, "given twice: {part}"),
+            BadCommand::BadPart(part) => write!(f, "no value of a part: {part}"),
+            BadCommand::NoImsi => write!(f, "imsi is missing"),
+            BadCommand::BadPlmn => write!(f, "not a network"),
+            BadCommand::BadImage => write!(f, "an image has 48 octets"),
+        }
+    }
+}
+
+impl Error for BadCommand {}

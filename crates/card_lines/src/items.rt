@@ -1,131 +1,56 @@
 // The items of a part: numbers in base ten, octets in hexadecimal, and `-` for none.
-ghost use Rattle.std.specs.Prelude.{◌≡◌, ℕ, List, Option};
-ghost use Rattle.std.specs.Option.{option_map};
-ghost use Rattle.card_lines.specs.Items.{octets_in, identity_bits, signature_bits};
+ghost use Rattle.std.specs.Prelude.{◌≡◌};
+ghost use Rattle.spelling.specs.Octets.{octets_or_none};
+ghost use Rattle.spelling.specs.Sized.{octets_in};
+ghost use Rattle.card_lines.specs.Items.{ReadsItem, identity_bits, signature_bits};
 
-use spelling::octets_or_none;
-use std::alloc::{AllocError, Global};
+use crate::BadCommand;
+use spelling::{Failed, octets_in, octets_or_none};
+use std::alloc::Global;
 
-// What octets in hexadecimal may stand for.
-pub(crate) trait Item: Sized {
-    ghost read: { List ℕ → Option Self };
+// Reads items; what is told of an item that is none is the same for all items of a part.
+#[derive(Clone, Copy)]
+pub(crate) struct Items {
+    pub heap: Global,
+    pub fault: BadCommand,
+}
 
-    fn of(octets: &[u8]) -> Option<Self>
-        ensures value { result ≡ read octets.now };
+impl Items {
+    pub(crate) fn number(self, text: &str) -> Result<u8, BadCommand> {
+        text.parse().ok().ok_or(self.fault)
+    }
+
+    // Octets that have to be there.
+    pub(crate) fn octets<const N: usize>(self, text: &str) -> Result<[u8; N], Failed<BadCommand>>
+        ensures value { ReadsItem (octets_in N (octets_or_none text.now)) self.fault result }
+    {
+        let octets = octets_or_none(self.heap, text.as_bytes())?;
+        Ok(octets_in(octets.as_slice()).ok_or(self.fault)?)
+    }
+
+    // Octets or `-`, which is none.
+    pub(crate) fn octets_or_dash<const N: usize>(
+        self,
+        text: &str,
+    ) -> Result<Option<[u8; N]>, Failed<BadCommand>> {
+        match text {
+            "-" => Ok(None),
+            text => Ok(Some(self.octets(text)?)),
+        }
+    }
 }
 
 // The bits of a TMSI or a P-TMSI.
-#[derive(Clone, Copy)]
-pub(crate) struct Identity {
-    pub bits: u32,
-}
-
-impl Item for Identity {
-    ghost read = { λ xs. option_map (λ ys. record { bits = identity_bits ys }) (octets_in 4 xs) };
-
-    fn of(octets: &[u8]) -> Option<Identity> {
-        let [a, b, c, d] = octets else {
-            return None;
-        };
-        Some(Identity {
-            bits: u32::from_be_bytes([*a, *b, *c, *d]),
-        })
-    }
+pub(crate) fn identity_bits(octets: [u8; 4]) -> u32
+    ensures value { result ≡ identity_bits octets }
+{
+    u32::from_be_bytes(octets)
 }
 
 // The bits of a P-TMSI signature.
-#[derive(Clone, Copy)]
-pub(crate) struct SignatureOctets {
-    pub bits: u32,
-}
-
-impl Item for SignatureOctets {
-    ghost read = { λ xs. option_map (λ ys. record { bits = signature_bits ys }) (octets_in 3 xs) };
-
-    fn of(octets: &[u8]) -> Option<SignatureOctets> {
-        let [a, b, c] = octets else {
-            return None;
-        };
-        Some(SignatureOctets {
-            bits: u32::from(*a) * 65536 + u32::from(*b) * 256 + u32::from(*c),
-        })
-    }
-}
-
-impl Item for [u8; 3] {
-    ghost read = { octets_in 3 };
-
-    fn of(octets: &[u8]) -> Option<[u8; 3]> {
-        if octets.len() != 3 {
-            return None;
-        }
-        let mut found = [0; 3];
-        found.copy_from_slice(octets);
-        Some(found)
-    }
-}
-
-impl Item for [u8; 5] {
-    ghost read = { octets_in 5 };
-
-    fn of(octets: &[u8]) -> Option<[u8; 5]> {
-        if octets.len() != 5 {
-            return None;
-        }
-        let mut found = [0; 5];
-        found.copy_from_slice(octets);
-        Some(found)
-    }
-}
-
-impl Item for [u8; 6] {
-    ghost read = { octets_in 6 };
-
-    fn of(octets: &[u8]) -> Option<[u8; 6]> {
-        if octets.len() != 6 {
-            return None;
-        }
-        let mut found = [0; 6];
-        found.copy_from_slice(octets);
-        Some(found)
-    }
-}
-
-impl Item for [u8; 48] {
-    ghost read = { octets_in 48 };
-
-    fn of(octets: &[u8]) -> Option<[u8; 48]> {
-        if octets.len() != 48 {
-            return None;
-        }
-        let mut found = [0; 48];
-        found.copy_from_slice(octets);
-        Some(found)
-    }
-}
-
-// An item that has to be there.
-pub(crate) fn item_in<T: Item>(heap: Global, text: &str) -> Result<Option<T>, AllocError> {
-    Ok(T::of(octets_or_none(heap, text.as_bytes())?.as_slice()))
-}
-
-// An item or `-`, which is none.
-pub(crate) fn item_or_none<T: Item>(
-    heap: Global,
-    text: &str,
-) -> Result<Option<Option<T>>, AllocError> {
-    if text == "-" {
-        return Ok(Some(None));
-    }
-    match item_in(heap, text)? {
-        Some(item) => Ok(Some(Some(item))),
-        None => Ok(None),
-    }
-}
-
-pub(crate) fn number_in(text: &str) -> Option<u8> {
-    match text.parse::<u8>() {
-        Ok(number) => Some(number),
-        Err(_) => None,
-    }
+pub(crate) fn signature_bits(octets: [u8; 3]) -> u32
+    ensures value { result ≡ signature_bits octets }
+{
+    let [a, b, c] = octets;
+    u32::from_be_bytes([0, a, b, c])
 }

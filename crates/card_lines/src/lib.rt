@@ -5,6 +5,8 @@ mod commands;
 mod faults;
 mod items;
 mod parts;
+mod words;
 
-pub use commands::{Command, Kind, command_in};
-pub use faults::{BadCommand, Part};
+pub use commands::{Command, command_in};
+pub use faults::BadCommand;
+pub use words::{Kind, Part};

@@ -1,9 +1,9 @@
 // The parts of a card that a line gives, with nothing checked but their form.
-use crate::Part;
-use crate::items::{Identity, SignatureOctets, item_in, item_or_none, number_in};
+use crate::items::{Items, identity_bits, signature_bits};
+use crate::{BadCommand, Part};
 use card::{CardFields, RecordFields};
-use spelling::digits_in;
-use std::alloc::{AllocError, Global};
+use spelling::{Failed, digits_in};
+use std::alloc::Global;
 
 #[derive(Clone, Copy)]
 struct PacketFields {
@@ -11,7 +11,7 @@ struct PacketFields {
     signature: Option<u32>,
 }
 
-#[derive(Drop)]
+#[derive(Default, Drop)]
 pub(crate) struct Parts {
     imsi: Option<Vec<u8>>,
     packet: Option<PacketFields>,
@@ -19,79 +19,49 @@ pub(crate) struct Parts {
     forbidden: Option<Vec<[u8; 3]>>,
 }
 
-fn bits(identity: Option<Identity>) -> Option<u32> {
-    Some(identity?.bits)
-}
-
-fn signature_bits(signature: Option<SignatureOctets>) -> Option<u32> {
-    Some(signature?.bits)
+// The items that the records of both sides have.
+fn record_in<const N: usize>(
+    items: Items,
+    [status, identity, area, key]: [&str; 4],
+) -> Result<RecordFields<[u8; N]>, Failed<BadCommand>> {
+    Ok(RecordFields {
+        status: items.number(status)?,
+        identity: items.octets_or_dash(identity)?.map(identity_bits),
+        area: items.octets_or_dash(area)?,
+        key: items.number(key)?,
+    })
 }
 
 // STATUS,IDENTITY,SIGNATURE,RAI,KEY
-fn packet_in(heap: Global, text: &str) -> Result<Option<PacketFields>, AllocError> {
-    let items = text.split(',').collect::<Vec<&str>>(heap)?;
-    let [status, identity, signature, area, key] = items.as_slice() else {
-        return Ok(None);
+fn packet_in(items: Items, text: &str) -> Result<PacketFields, Failed<BadCommand>> {
+    let words = text.split(',').collect::<Vec<&str>>(items.heap)?;
+    let [status, identity, signature, area, key] = words.as_slice() else {
+        return Err(items.fault.into());
     };
-    let (Some(status), Some(key)) = (number_in(status), number_in(key)) else {
-        return Ok(None);
-    };
-    let Some(identity) = item_or_none::<Identity>(heap, identity)? else {
-        return Ok(None);
-    };
-    let Some(signature) = item_or_none::<SignatureOctets>(heap, signature)? else {
-        return Ok(None);
-    };
-    let Some(area) = item_or_none::<[u8; 6]>(heap, area)? else {
-        return Ok(None);
-    };
-    Ok(Some(PacketFields {
-        base: RecordFields {
-            status,
-            identity: bits(identity),
-            area,
-            key,
-        },
-        signature: signature_bits(signature),
-    }))
+    Ok(PacketFields {
+        base: record_in(items, [status, identity, area, key])?,
+        signature: items.octets_or_dash(signature)?.map(signature_bits),
+    })
 }
 
 // STATUS,IDENTITY,LAI,KEY
-fn circuit_in(heap: Global, text: &str) -> Result<Option<RecordFields<[u8; 5]>>, AllocError> {
-    let items = text.split(',').collect::<Vec<&str>>(heap)?;
-    let [status, identity, area, key] = items.as_slice() else {
-        return Ok(None);
+fn circuit_in(items: Items, text: &str) -> Result<RecordFields<[u8; 5]>, Failed<BadCommand>> {
+    let words = text.split(',').collect::<Vec<&str>>(items.heap)?;
+    let [status, identity, area, key] = words.as_slice() else {
+        return Err(items.fault.into());
     };
-    let (Some(status), Some(key)) = (number_in(status), number_in(key)) else {
-        return Ok(None);
-    };
-    let Some(identity) = item_or_none::<Identity>(heap, identity)? else {
-        return Ok(None);
-    };
-    let Some(area) = item_or_none::<[u8; 5]>(heap, area)? else {
-        return Ok(None);
-    };
-    Ok(Some(RecordFields {
-        status,
-        identity: bits(identity),
-        area,
-        key,
-    }))
+    record_in(items, [status, identity, area, key])
 }
 
 // Networks with commas between them, or `-` for none.
-fn forbidden_in(heap: Global, text: &str) -> Result<Option<Vec<[u8; 3]>>, AllocError> {
-    let mut plmns = Vec::new(heap);
-    if text == "-" {
-        return Ok(Some(plmns));
+fn forbidden_in(items: Items, text: &str) -> Result<Vec<[u8; 3]>, Failed<BadCommand>> {
+    let mut plmns = Vec::new(items.heap);
+    if text != "-" {
+        for item in text.split(',') {
+            plmns.push(items.octets(item)?)?;
+        }
     }
-    for item in text.split(',') {
-        let Some(plmn) = item_in::<[u8; 3]>(heap, item)? else {
-            return Ok(None);
-        };
-        plmns.push(plmn)?;
-    }
-    Ok(Some(plmns))
+    Ok(plmns)
 }
 
 // A record of a card that was never registered.
@@ -105,15 +75,6 @@ fn blank<O>() -> RecordFields<O> {
 }
 
 impl Parts {
-    pub(crate) fn none() -> Parts {
-        Parts {
-            imsi: None,
-            packet: None,
-            circuit: None,
-            forbidden: None,
-        }
-    }
-
     pub(crate) fn has(&self, part: Part) -> bool {
         match part {
             Part::Imsi => self.imsi.is_some(),
@@ -123,13 +84,20 @@ impl Parts {
         }
     }
 
-    // Takes the text of a part; a text that is none leaves the part out.
-    pub(crate) fn set(&mut self, heap: Global, part: Part, text: &str) -> Result<(), AllocError> {
+    // One word of a card, `part=value`.
+    pub(crate) fn take(&mut self, heap: Global, word: &str) -> Result<(), Failed<BadCommand>> {
+        let (name, value) = word.split_once('=').ok_or(BadCommand::NoValue)?;
+        let part = name.parse()?;
+        if self.has(part) {
+            return Err(BadCommand::RepeatedPart(part).into());
+        }
+        let fault = BadCommand::BadPart(part);
+        let items = Items { heap, fault };
         match part {
-            Part::Imsi => self.imsi = Some(digits_in(heap, text.as_bytes())?),
-            Part::Packet => self.packet = packet_in(heap, text)?,
-            Part::Circuit => self.circuit = circuit_in(heap, text)?,
-            Part::Forbidden => self.forbidden = forbidden_in(heap, text)?,
+            Part::Imsi => self.imsi = Some(digits_in(heap, value.as_bytes())?),
+            Part::Packet => self.packet = Some(packet_in(items, value)?),
+            Part::Circuit => self.circuit = Some(circuit_in(items, value)?),
+            Part::Forbidden => self.forbidden = Some(forbidden_in(items, value)?),
         }
         Ok(())
     }
