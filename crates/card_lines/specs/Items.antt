@@ -1,14 +1,5 @@
 -- The items of a part.
-use Rattle.std.specs.Prelude.{◌≡◌, ℕ, ◌+◌, ◌*◌, List, Some, None, Ok, Err, Option, Result, slice_index}
-use Rattle.card_lines.specs.declared.faults.BadCommand.{BadCommand}
-use Rattle.spelling.specs.declared.failed.Failed.{Failed}
-use Rattle.spelling.specs.declared.failed.Failed.TheVariants as failed
-
--- an item is read, or the fault tells that there is none; where memory is short nothing is said of it
-abbrev pub ReadsItem : {X : Type 0} → Option X → BadCommand → Result X (Failed BadCommand) → Type 0
-ReadsItem item fault (Ok x) = item ≡ Some x
-ReadsItem item fault (Err (failed.Bad reason)) = (item ≡ None) × (reason ≡ fault)
-ReadsItem item fault (Err (failed.Memory error)) = Unit
+use Rattle.std.specs.Prelude.{ℕ, ◌+◌, ◌*◌, List, slice_index}
 
 -- the bits of an identity, the highest octet first
 abbrev pub identity_bits : List ℕ → ℕ

@@ -1,8 +1,10 @@
 // The items of a part: numbers in base ten, octets in hexadecimal, and `-` for none.
 ghost use Rattle.std.specs.Prelude.{◌≡◌};
+ghost use Rattle.std.specs.Option.{ok_or};
+ghost use Rattle.spelling.specs.Failed.{UnlessShort};
 ghost use Rattle.spelling.specs.Octets.{octets_or_none};
 ghost use Rattle.spelling.specs.Sized.{octets_in};
-ghost use Rattle.card_lines.specs.Items.{ReadsItem, identity_bits, signature_bits};
+ghost use Rattle.card_lines.specs.Items.{identity_bits, signature_bits};
 
 use crate::BadCommand;
 use spelling::{Failed, octets_in, octets_or_none};
@@ -22,7 +24,7 @@ impl Items {
 
     // Octets that have to be there.
     pub(crate) fn octets<const N: usize>(self, text: &str) -> Result<[u8; N], Failed<BadCommand>>
-        ensures value { ReadsItem (octets_in N (octets_or_none text.now)) self.fault result }
+        ensures value { UnlessShort result (λ x. x ≡ ok_or (octets_in N (octets_or_none text.now)) self.fault) }
     {
         let octets = octets_or_none(self.heap, text.as_bytes())?;
         Ok(octets_in(octets.as_slice()).ok_or(self.fault)?)

@@ -1,4 +1,5 @@
 pub mod Digits
+pub mod Failed
 pub mod Octets
 pub mod Sized
 pub mod Words

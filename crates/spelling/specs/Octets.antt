@@ -1,7 +1,5 @@
 -- What a text spells in hexadecimal: two digits to an octet, spaces between octets, and a comment from '#' on.
-use Rattle.std.specs.Prelude.{◌≡◌, ℕ, ◌+◌, ◌-◌, ◌*◌, Bool, cond, ◌&&◌, ◌||◌, List, [], ◌∷◌, ◌++◌, Some, None, Ok, Err, vec_items, Option, Result, Vec, ◌==◌, nat_le}
-use Rattle.spelling.specs.declared.failed.Failed.{Failed}
-use Rattle.spelling.specs.declared.failed.Failed.TheVariants as failed
+use Rattle.std.specs.Prelude.{ℕ, ◌+◌, ◌-◌, ◌*◌, Bool, cond, ◌&&◌, ◌||◌, List, [], ◌∷◌, ◌++◌, Some, None, Ok, Err, vec_items, Option, Result, Vec, ◌==◌, nat_le}
 use Rattle.spelling.specs.declared.octets.Misspelled.{Misspelled}
 use Rattle.spelling.specs.declared.octets.Misspelled.TheVariants.{OddDigits, NotHexadecimal}
 use Rattle.spelling.specs.declared.octets.Step.{Step}
@@ -48,12 +46,6 @@ spelled done high (c ∷ cs) = stepped done high (taken high c) (λ d h. spelled
 abbrev pub octets_in : {Z : Type 0} → Result (Vec ℕ Z) Misspelled → Result (List ℕ) Misspelled
 octets_in (Ok v) = Ok (vec_items v)
 octets_in (Err reason) = Err reason
-
--- a text is read as it spells; where memory is short, nothing is said of it
-abbrev pub Spells : {Z : Type 0} → Result (Vec ℕ Z) (Failed Misspelled) → Result (List ℕ) Misspelled → Type 0
-Spells (Ok v) r = r ≡ Ok (vec_items v)
-Spells (Err (failed.Bad reason)) r = r ≡ Err reason
-Spells (Err (failed.Memory error)) r = Unit
 
 -- the octets that a text spells; no octets where it spells none
 abbrev pub octets_or_none : List ℕ → List ℕ

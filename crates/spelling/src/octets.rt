@@ -1,6 +1,7 @@
 // The octets that a text spells in hexadecimal.
 ghost use Rattle.std.specs.Prelude.{◌≡◌, [], IfOk, None};
-ghost use Rattle.spelling.specs.Octets.{digit_of, taken, ended, octets_in, spelled, Spells, octets_or_none};
+ghost use Rattle.spelling.specs.Octets.{digit_of, taken, ended, octets_in, spelled, octets_or_none};
+ghost use Rattle.spelling.specs.Failed.{UnlessShort};
 ghost use Rattle.spelling.specs.declared.failed.Failed.TheVariants.{Bad};
 
 use crate::digit::{Digit, digit_of};
@@ -60,7 +61,7 @@ fn ended(octets: Vec<u8>, high: Option<Digit>) -> Result<Vec<u8>, Misspelled>
 // The octets of a text, or why it spells none.
 #[tactic(auto, using(crate::proofs::Spells::spelling_steps))]
 pub fn spelled(heap: Global, text: &[u8]) -> Result<Vec<u8>, Failed<Misspelled>>
-    ensures value { Spells result (spelled [] None text.now) }
+    ensures value { UnlessShort result (λ x. octets_in x ≡ spelled [] None text.now) }
 {
     let mut octets = Vec::new(heap);
     let mut high = None;
