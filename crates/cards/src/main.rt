@@ -4,34 +4,27 @@
 mod reasons;
 mod texts;
 
-use answers::Answer;
 use card_lines::{Command, Kind, command_in};
-use reasons::{Reason, unlawful_part};
-use shown::Shown;
+use reasons::UnlawfulPart;
 use std::io;
 use stores::{
     CardReader, CardStore, ImageStore, PlainStore, Step, StoreFault, copy_card, take_step,
     whole_card,
 };
-use texts::{ShownCard, ShownImage};
+use texts::{Given, Hex};
 
-fn refuse(rt: &HostRuntime, name: &str, fault: StoreFault) -> io::Result<()> {
-    let refusal = Shown(Answer::Refused(fault.refusal()));
-    println!(rt; "{name}: {refusal}")
-}
-
-fn tell(rt: &HostRuntime, name: &str, answer: Result<(), StoreFault>) -> io::Result<()> {
+fn tell(rt: &HostRuntime, store: Kind, answer: Result<(), StoreFault>) -> io::Result<()> {
     match answer {
-        Ok(()) => println!(rt; "{name}: done"),
-        Err(fault) => refuse(rt, name, fault),
+        Ok(()) => println!(rt; "{store}: done"),
+        Err(fault) => println!(rt; "{store}: {}", fault.refusal()),
     }
 }
 
 // What any store that can be asked answers; it is not touched.
-fn show<R: CardReader>(rt: &HostRuntime, name: &str, reader: &R) -> io::Result<()> {
+fn show<R: CardReader>(rt: &HostRuntime, store: Kind, reader: &R) -> io::Result<()> {
     match whole_card(reader) {
-        Ok(card) => println!(rt; "{name}: {}", ShownCard(card)),
-        Err(fault) => refuse(rt, name, fault),
+        Ok(card) => println!(rt; "{store}: {}", Given(card)),
+        Err(fault) => println!(rt; "{store}: {}", fault.refusal()),
     }
 }
 
@@ -43,19 +36,19 @@ struct Stores {
 
 fn steps(rt: &HostRuntime, stores: &mut Stores, steps: &[Step]) -> io::Result<()> {
     for step in steps {
-        tell(rt, "plain", take_step(&mut stores.plain, step))?;
-        tell(rt, "image", take_step(&mut stores.image, step))?;
+        tell(rt, Kind::Plain, take_step(&mut stores.plain, step))?;
+        tell(rt, Kind::Image, take_step(&mut stores.image, step))?;
     }
     Ok(())
 }
 
 // Each octet in turn is one more than it was, and FF becomes 00.
 fn damage(rt: &HostRuntime, store: ImageStore) -> io::Result<()> {
-    for at in 0..48 {
+    for (at, octet) in store.octets.iter().enumerate() {
         let mut octets = store.octets;
-        octets[at] = octets[at].wrapping_add(1);
+        octets[at] = octet.wrapping_add(1);
         match whole_card(&ImageStore { octets }) {
-            Ok(card) => println!(rt; "octet {at}: {}", ShownCard(card))?,
+            Ok(card) => println!(rt; "octet {at}: {}", Given(card))?,
             Err(_) => println!(rt; "octet {at}: empty")?,
         }
     }
@@ -64,8 +57,8 @@ fn damage(rt: &HostRuntime, store: ImageStore) -> io::Result<()> {
 
 fn copy_into(rt: &HostRuntime, stores: &mut Stores, kind: Kind) -> io::Result<()> {
     match kind {
-        Kind::Plain => tell(rt, "plain", copy_card(&stores.image, &mut stores.plain)),
-        Kind::Image => tell(rt, "image", copy_card(&stores.plain, &mut stores.image)),
+        Kind::Plain => tell(rt, Kind::Plain, copy_card(&stores.image, &mut stores.plain)),
+        Kind::Image => tell(rt, Kind::Image, copy_card(&stores.plain, &mut stores.image)),
     }
 }
 
@@ -74,22 +67,18 @@ fn run(rt: &HostRuntime, stores: &mut Stores, command: &Command) -> io::Result<(
         Command::Blank => Ok(()),
         Command::Steps(list) => steps(rt, stores, list.as_slice()),
         Command::Show => {
-            show(rt, "plain", &stores.plain)?;
-            show(rt, "image", &stores.image)?;
-            println!(rt; "octets: {}", ShownImage(stores.image.octets))
+            show(rt, Kind::Plain, &stores.plain)?;
+            show(rt, Kind::Image, &stores.image)?;
+            println!(rt; "octets: {}", Hex(stores.image.octets))
         }
         Command::Octets(octets) => {
             stores.image = ImageStore { octets: *octets };
-            show(rt, "image", &stores.image)
+            show(rt, Kind::Image, &stores.image)
         }
         Command::CopyInto(kind) => copy_into(rt, stores, *kind),
         Command::Damage => damage(rt, stores.image),
-        Command::Refused(fault) => {
-            let refusal = Shown(Answer::Refused(fault.refusal()));
-            let part = unlawful_part(*fault);
-            println!(rt; "{refusal} {part}")
-        }
-        Command::Bad(reason) => println!(rt; "bad line: {}", Reason(*reason)),
+        Command::Refused(fault) => { println!(rt; "{} {}", fault.refusal(), UnlawfulPart(*fault)) }
+        Command::Bad(reason) => println!(rt; "bad line: {reason}"),
     }
 }
 
@@ -102,13 +91,10 @@ fn main(rt: HostRuntime) -> io::Result<()> {
     for line in rt.lines(heap) {
         let text = line?;
         let command = command_in(heap, text.as_str())?;
-        match command {
-            Command::Blank => {}
-            command => {
-                println!(rt; "> {text}")?;
-                run(&rt, &mut stores, &command)?;
-            }
+        if !matches!(command, Command::Blank) {
+            println!(rt; "> {text}")?;
         }
+        run(&rt, &mut stores, &command)?;
     }
     Ok(())
 }

@@ -1,98 +1,85 @@
 // Cards and images as they are given on a line.
 use card::{Card, PacketRecord, Record};
-use identities::{Imsi, KeyNumber, Tmsi};
+use identities::KeyNumber;
 use std::fmt;
 use vocabulary::{Lai, Plmn, Rai};
 
-fn show_octets<W: fmt::Write>(octets: &[u8], f: &mut fmt::Formatter<W>) -> fmt::Result {
-    for octet in octets {
-        write!(f, "{octet:02X}")?;
-    }
-    Ok(())
-}
+// A value in the words in which a line gives it.
+#[derive(Clone, Copy)]
+pub(crate) struct Given<T>(pub T);
 
-fn show_imsi<W: fmt::Write>(imsi: Imsi, f: &mut fmt::Formatter<W>) -> fmt::Result {
-    for digit in imsi.digits.iter().take(imsi.len) {
-        write!(f, "{digit}")?;
-    }
-    Ok(())
-}
+// Octets in hexadecimal.
+#[derive(Clone, Copy)]
+pub(crate) struct Hex<const N: usize>(pub [u8; N]);
 
-fn show_identity<W: fmt::Write>(identity: Option<Tmsi>, f: &mut fmt::Formatter<W>) -> fmt::Result {
-    match identity {
-        Some(tmsi) => show_octets(&tmsi.octets(), f),
-        None => write!(f, "-"),
-    }
-}
+// What may be none.
+#[derive(Clone, Copy)]
+struct OrDash<T>(Option<T>);
 
-fn show_packet<W: fmt::Write>(packet: PacketRecord, f: &mut fmt::Formatter<W>) -> fmt::Result {
-    let status = packet.base.status.number();
-    write!(f, " packet={status},")?;
-    show_identity(packet.base.identity, f)?;
-    write!(f, ",")?;
-    match packet.signature {
-        Some(signature) => show_octets(&signature.octets(), f)?,
-        None => write!(f, "-")?,
-    }
-    write!(f, ",")?;
-    match packet.base.area {
-        Some(area) => show_octets(&Rai::octets(Some(area)), f)?,
-        None => write!(f, "-")?,
-    }
-    let key = KeyNumber::written(packet.base.key);
-    write!(f, ",{key}")
-}
-
-fn show_circuit<W: fmt::Write>(circuit: Record<Lai>, f: &mut fmt::Formatter<W>) -> fmt::Result {
-    let status = circuit.status.number();
-    write!(f, " circuit={status},")?;
-    show_identity(circuit.identity, f)?;
-    write!(f, ",")?;
-    match circuit.area {
-        Some(area) => show_octets(&Lai::octets(Some(area)), f)?,
-        None => write!(f, "-")?,
-    }
-    let key = KeyNumber::written(circuit.key);
-    write!(f, ",{key}")
-}
-
-fn show_plmns<W: fmt::Write>(plmns: &[Plmn], f: &mut fmt::Formatter<W>) -> fmt::Result {
-    if plmns.is_empty() {
-        return write!(f, "-");
-    }
-    let mut first = true;
-    for plmn in plmns {
-        if !first {
-            write!(f, ",")?;
+impl<const N: usize> fmt::Display for Hex<N> {
+    fn fmt<W: fmt::Write>(&self, f: &mut fmt::Formatter<W>) -> fmt::Result {
+        for octet in &self.0 {
+            write!(f, "{octet:02X}")?;
         }
-        show_octets(&plmn.octets(), f)?;
-        first = false;
-    }
-    Ok(())
-}
-
-// A card in the words in which a line gives one.
-#[derive(Clone, Copy)]
-pub(crate) struct ShownCard(pub Card);
-
-impl fmt::Display for ShownCard {
-    fn fmt<W: fmt::Write>(&self, f: &mut fmt::Formatter<W>) -> fmt::Result {
-        let card = self.0;
-        write!(f, "imsi=")?;
-        show_imsi(card.imsi, f)?;
-        show_packet(card.packet, f)?;
-        show_circuit(card.circuit, f)?;
-        write!(f, " forbidden=")?;
-        show_plmns(card.forbidden.entries(), f)
+        Ok(())
     }
 }
 
-// Octets in hexadecimal, as a line gives an image.
-#[derive(Clone, Copy)]
-pub(crate) struct ShownImage(pub [u8; 48]);
-
-impl fmt::Display for ShownImage {
+impl<T: fmt::Display> fmt::Display for OrDash<T> {
     fn fmt<W: fmt::Write>(&self, f: &mut fmt::Formatter<W>) -> fmt::Result {
-        show_octets(&self.0, f)
+        match &self.0 {
+            Some(value) => write!(f, "{value}"),
+            None => write!(f, "-"),
+        }
+    }
+}
+
+impl fmt::Display for Given<PacketRecord> {
+    fn fmt<W: fmt::Write>(&self, f: &mut fmt::Formatter<W>) -> fmt::Result {
+        let PacketRecord { base, signature } = self.0;
+        let status = base.status.number();
+        let identity = OrDash(base.identity.map(|tmsi| Hex(tmsi.octets())));
+        let signature = OrDash(signature.map(|signature| Hex(signature.octets())));
+        let area = OrDash(base.area.map(|rai| Hex(Rai::octets(Some(rai)))));
+        let key = KeyNumber::written(base.key);
+        write!(f, "{status},{identity},{signature},{area},{key}")
+    }
+}
+
+impl fmt::Display for Given<Record<Lai>> {
+    fn fmt<W: fmt::Write>(&self, f: &mut fmt::Formatter<W>) -> fmt::Result {
+        let record = self.0;
+        let status = record.status.number();
+        let identity = OrDash(record.identity.map(|tmsi| Hex(tmsi.octets())));
+        let area = OrDash(record.area.map(|lai| Hex(Lai::octets(Some(lai)))));
+        let key = KeyNumber::written(record.key);
+        write!(f, "{status},{identity},{area},{key}")
+    }
+}
+
+impl fmt::Display for Given<&[Plmn]> {
+    fn fmt<W: fmt::Write>(&self, f: &mut fmt::Formatter<W>) -> fmt::Result {
+        let Some((first, rest)) = self.0.split_first() else {
+            return write!(f, "-");
+        };
+        write!(f, "{}", Hex(first.octets()))?;
+        for plmn in rest {
+            write!(f, ",{}", Hex(plmn.octets()))?;
+        }
+        Ok(())
+    }
+}
+
+impl fmt::Display for Given<Card> {
+    fn fmt<W: fmt::Write>(&self, f: &mut fmt::Formatter<W>) -> fmt::Result {
+        let card = &self.0;
+        let packet = Given(card.packet);
+        let circuit = Given(card.circuit);
+        let forbidden = Given(card.forbidden.entries());
+        write!(
+            f,
+            "imsi={} packet={packet} circuit={circuit} forbidden={forbidden}",
+            card.imsi
+        )
     }
 }

@@ -20,9 +20,9 @@ fn show_cuts(rt: &HostRuntime, line: &Line) -> io::Result<()> {
         return Ok(());
     };
     let whole = octets.as_slice();
+    // Over the lengths, since the library has no iterator over what a slice begins with.
     for len in 1..whole.len() {
-        let answer = Shown(frame_answer(&whole[0..len]));
-        println!(rt; "{len}: {answer}")?;
+        println!(rt; "{len}: {}", Shown(frame_answer(&whole[..len])))?;
     }
     Ok(())
 }

@@ -8,15 +8,10 @@ use std::io;
 
 fn main(rt: HostRuntime) -> io::Result<()> {
     let heap = rt.alloc();
-    let mut number = 0u64;
-    for text in rt.lines(heap) {
-        number = number.saturating_add(1);
+    for (number, text) in (1u64..).zip(rt.lines(heap)) {
         match answer_to(&line_in(heap, text?.as_str())?) {
             Answer::Nothing => {}
-            Answer::Bad(reason) => {
-                let answer = Shown(Answer::Bad(reason));
-                println!(rt; "line {number}: {answer}")?;
-            }
+            Answer::Bad(reason) => println!(rt; "line {number}: {reason}")?,
             answer => println!(rt; "{}", Shown(answer))?,
         }
     }

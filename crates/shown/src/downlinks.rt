@@ -1,0 +1,95 @@
+// A frame by its name in the standard, and every field that was read.
+ghost use Rattle.std.specs.Prelude.{◌≡◌};
+ghost use Rattle.frames.specs.Causes.{cause_number};
+
+use crate::Shown;
+use frames::{Cause, Downlink, PacketAccept};
+use std::fmt;
+
+impl fmt::Display for Shown<Downlink> {
+    fn fmt<W: fmt::Write>(&self, f: &mut fmt::Formatter<W>) -> fmt::Result {
+        match self.0 {
+            Downlink::AttachAccept(accept) => write!(f, "attach accept {}", Shown(accept)),
+            Downlink::AttachReject(cause, elements) => {
+                write!(f, "attach reject {}{}", Shown(cause), Shown(elements))
+            }
+            Downlink::DetachAccept(elements) => write!(f, "detach accept{}", Shown(elements)),
+            Downlink::UpdateAccept(accept) => {
+                write!(f, "routing area update accept {}", Shown(accept))
+            }
+            Downlink::UpdateReject(cause, elements) => {
+                write!(
+                    f,
+                    "routing area update reject {}{}",
+                    Shown(cause),
+                    Shown(elements)
+                )
+            }
+            Downlink::LocationAccept(lai, elements) => {
+                write!(f, "location updating accept lai={lai}{}", Shown(elements))
+            }
+            Downlink::LocationReject(cause, elements) => {
+                write!(
+                    f,
+                    "location updating reject {}{}",
+                    Shown(cause),
+                    Shown(elements)
+                )
+            }
+        }
+    }
+}
+
+impl fmt::Display for Shown<PacketAccept> {
+    fn fmt<W: fmt::Write>(&self, f: &mut fmt::Formatter<W>) -> fmt::Result {
+        let accept = self.0;
+        write!(
+            f,
+            "t3312={}s rai={}{}",
+            accept.t3312,
+            accept.rai,
+            Shown(accept.elements)
+        )
+    }
+}
+
+fn cause_number(cause: Cause) -> u8
+    ensures value { result ≡ cause_number cause }
+{
+    match cause {
+        Cause::ImsiUnknownInHlr => 2,
+        Cause::IllegalMs => 3,
+        Cause::IllegalMe => 6,
+        Cause::GprsNotAllowed => 7,
+        Cause::GprsAndNonGprsNotAllowed => 8,
+        Cause::IdentityCannotBeDerived => 9,
+        Cause::ImplicitlyDetached => 10,
+        Cause::PlmnNotAllowed => 11,
+        Cause::LocationAreaNotAllowed => 12,
+        Cause::RoamingNotAllowed => 13,
+        Cause::GprsNotAllowedInPlmn => 14,
+        Cause::NoSuitableCells => 15,
+        Cause::Other(number) => number,
+    }
+}
+
+impl fmt::Display for Shown<Cause> {
+    fn fmt<W: fmt::Write>(&self, f: &mut fmt::Formatter<W>) -> fmt::Result {
+        write!(f, "cause={} ", cause_number(self.0))?;
+        f.write_str(match self.0 {
+            Cause::ImsiUnknownInHlr => "IMSI unknown in HLR",
+            Cause::IllegalMs => "Illegal MS",
+            Cause::IllegalMe => "Illegal ME",
+            Cause::GprsNotAllowed => "GPRS services not allowed",
+            Cause::GprsAndNonGprsNotAllowed => "GPRS services and non-GPRS services not allowed",
+            Cause::IdentityCannotBeDerived => "MS identity cannot be derived by the network",
+            Cause::ImplicitlyDetached => "Implicitly detached",
+            Cause::PlmnNotAllowed => "PLMN not allowed",
+            Cause::LocationAreaNotAllowed => "Location area not allowed",
+            Cause::RoamingNotAllowed => "Roaming not allowed in this location area",
+            Cause::GprsNotAllowedInPlmn => "GPRS services not allowed in this PLMN",
+            Cause::NoSuitableCells => "No suitable cells in location area",
+            Cause::Other(_) => "other",
+        })
+    }
+}
