@@ -6,7 +6,6 @@ use crate::{BadCommand, Kind, Part};
 use card::{Card, Unlawful};
 use spelling::Failed;
 use std::alloc::{AllocError, Global};
-use std::str::SplitWhitespace;
 use stores::Step;
 use vocabulary::Plmn;
 
@@ -52,7 +51,7 @@ fn one_step(heap: Global, step: Step) -> Result<Command, AllocError> {
     Ok(Command::Steps(vec![in heap; step]?))
 }
 
-fn parts_in(heap: Global, words: SplitWhitespace<'_>) -> Result<Parts, Failed<BadCommand>> {
+fn parts_in(heap: Global, words: &[&str]) -> Result<Parts, Failed<BadCommand>> {
     let mut parts = Parts::default();
     for word in words {
         parts.take(heap, word)?;
@@ -77,21 +76,6 @@ fn write(heap: Global, parts: &Parts) -> Result<Command, AllocError> {
     }
 }
 
-// The end of a command that is its verb alone.
-fn no_word(mut words: SplitWhitespace<'_>) -> Result<(), BadCommand> {
-    match words.next() {
-        None => Ok(()),
-        Some(_) => Err(BadCommand::ExtraWord),
-    }
-}
-
-// The word behind the verb of a command that has one.
-fn one_word<'a>(mut words: SplitWhitespace<'a>) -> Result<&'a str, BadCommand> {
-    let word = words.next().ok_or(BadCommand::MissingWord)?;
-    no_word(words)?;
-    Ok(word)
-}
-
 fn plmn_in(heap: Global, text: &str) -> Result<Plmn, Failed<BadCommand>> {
     let fault = BadCommand::BadPlmn;
     let octets = Items { heap, fault }.octets(text)?;
@@ -103,38 +87,32 @@ fn image_in(heap: Global, text: &str) -> Result<[u8; 48], Failed<BadCommand>> {
     Items { heap, fault }.octets(text)
 }
 
+// What a verb asks for with the words behind it.
+fn command_of(heap: Global, verb: Verb, words: &[&str]) -> Result<Command, Failed<BadCommand>> {
+    match (verb, words) {
+        (Verb::Load, words) => load(heap, &parts_in(heap, words)?),
+        (Verb::Write, words) => Ok(write(heap, &parts_in(heap, words)?)?),
+        (Verb::Eject, []) => Ok(one_step(heap, Step::Eject)?),
+        (Verb::Damage, []) => Ok(Command::Damage),
+        (Verb::Show, []) => Ok(Command::Show),
+        (Verb::Octets, [image]) => Ok(Command::Octets(image_in(heap, image)?)),
+        (Verb::Copy, [store]) => Ok(Command::CopyInto(store.parse()?)),
+        (Verb::Forbid, [plmn]) => Ok(one_step(heap, Step::Forbid(plmn_in(heap, plmn)?))?),
+        (Verb::Permit, [plmn]) => Ok(one_step(heap, Step::Permit(plmn_in(heap, plmn)?))?),
+        (Verb::Octets | Verb::Copy | Verb::Forbid | Verb::Permit, []) => {
+            Err(BadCommand::MissingWord.into())
+        }
+        _ => Err(BadCommand::ExtraWord.into()),
+    }
+}
+
 // What a line asks for, or why it is not understood.
 fn asked(heap: Global, line: &str) -> Result<Command, Failed<BadCommand>> {
     let text = line.split_once('#').map_or(line, |(text, _)| text);
-    let mut words = text.split_whitespace();
-    let Some(verb) = words.next() else {
-        return Ok(Command::Blank);
-    };
-    match verb.parse()? {
-        Verb::Load => load(heap, &parts_in(heap, words)?),
-        Verb::Write => Ok(write(heap, &parts_in(heap, words)?)?),
-        Verb::Eject => {
-            no_word(words)?;
-            Ok(one_step(heap, Step::Eject)?)
-        }
-        Verb::Damage => {
-            no_word(words)?;
-            Ok(Command::Damage)
-        }
-        Verb::Show => {
-            no_word(words)?;
-            Ok(Command::Show)
-        }
-        Verb::Octets => Ok(Command::Octets(image_in(heap, one_word(words)?)?)),
-        Verb::Copy => Ok(Command::CopyInto(one_word(words)?.parse()?)),
-        Verb::Forbid => {
-            let plmn = plmn_in(heap, one_word(words)?)?;
-            Ok(one_step(heap, Step::Forbid(plmn))?)
-        }
-        Verb::Permit => {
-            let plmn = plmn_in(heap, one_word(words)?)?;
-            Ok(one_step(heap, Step::Permit(plmn))?)
-        }
+    let words = text.split_whitespace().collect::<Vec<&str>>(heap)?;
+    match words.as_slice() {
+        [] => Ok(Command::Blank),
+        [verb, words @ ..] => command_of(heap, verb.parse()?, words),
     }
 }
 
