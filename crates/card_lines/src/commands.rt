@@ -1,10 +1,19 @@
 // A line of text: a step of a card's day, or a question.
+ghost use Rattle.std.specs.Prelude.{◌≡◌, ◌∷◌, [], true, map, IfOk, Some};
+ghost use Rattle.spelling.specs.Failed.{UnlessShort};
+ghost use Rattle.spelling.specs.Octets.{octets_or_none};
+ghost use Rattle.spelling.specs.Sized.{octets_in};
+ghost use Rattle.std.specs.Option.{ok_or};
+ghost use Rattle.card_lines.specs.Commands.{Asks, Loads, Writes, is_write, plmn_given, steps_of};
+ghost use Rattle.card_lines.specs.Lines.{AsksFor, AsksWords};
+ghost use Rattle.card_lines.specs.declared.faults.BadCommand.TheVariants.{BadPlmn, BadImage};
+
 use crate::items::Items;
 use crate::parts::Parts;
 use crate::words::Verb;
 use crate::{BadCommand, Kind, Part};
 use card::{Card, Unlawful};
-use spelling::Failed;
+use spelling::{Failed, words_in};
 use std::alloc::{AllocError, Global};
 use stores::Step;
 use vocabulary::Plmn;
@@ -28,7 +37,9 @@ pub enum Command {
     Bad(BadCommand),
 }
 
-fn step_of(card: &Card, part: Part) -> Step {
+fn step_of(card: &Card, part: Part) -> Step
+    ensures value { is_write result ≡ true }
+{
     match part {
         Part::Imsi => Step::WriteImsi(card.imsi),
         Part::Packet => Step::WritePacket(card.packet),
@@ -38,7 +49,9 @@ fn step_of(card: &Card, part: Part) -> Step {
 }
 
 // A step for each part that is given.
-fn writes(heap: Global, parts: &Parts, card: &Card) -> Result<Command, AllocError> {
+fn writes(heap: Global, parts: &Parts, card: &Card) -> Result<Command, AllocError>
+    ensures value { IfOk result Writes }
+{
     let steps = [Part::Imsi, Part::Packet, Part::Circuit, Part::Forbidden]
         .into_iter()
         .filter(|part| parts.has(*part))
@@ -47,7 +60,9 @@ fn writes(heap: Global, parts: &Parts, card: &Card) -> Result<Command, AllocErro
     Ok(Command::Steps(steps))
 }
 
-fn one_step(heap: Global, step: Step) -> Result<Command, AllocError> {
+fn one_step(heap: Global, step: Step) -> Result<Command, AllocError>
+    ensures value { IfOk result (λ command. steps_of command ≡ Some (step ∷ [])) }
+{
     Ok(Command::Steps(vec![in heap; step]?))
 }
 
@@ -59,7 +74,9 @@ fn parts_in(heap: Global, words: &[&str]) -> Result<Parts, Failed<BadCommand>> {
     Ok(parts)
 }
 
-fn load(heap: Global, parts: &Parts) -> Result<Command, Failed<BadCommand>> {
+fn load(heap: Global, parts: &Parts) -> Result<Command, Failed<BadCommand>>
+    ensures value { IfOk result Loads }
+{
     if !parts.has(Part::Imsi) {
         return Err(BadCommand::NoImsi.into());
     }
@@ -69,26 +86,34 @@ fn load(heap: Global, parts: &Parts) -> Result<Command, Failed<BadCommand>> {
     }
 }
 
-fn write(heap: Global, parts: &Parts) -> Result<Command, AllocError> {
+fn write(heap: Global, parts: &Parts) -> Result<Command, AllocError>
+    ensures value { IfOk result Writes }
+{
     match Card::from_fields(&parts.fields()) {
         Ok(card) => writes(heap, parts, &card),
         Err(fault) => Ok(Command::Refused(fault)),
     }
 }
 
-fn plmn_in(heap: Global, text: &str) -> Result<Plmn, Failed<BadCommand>> {
+fn plmn_in(heap: Global, text: &str) -> Result<Plmn, Failed<BadCommand>>
+    ensures value { UnlessShort result (λ r. r ≡ ok_or (plmn_given text.now) BadPlmn) }
+{
     let fault = BadCommand::BadPlmn;
     let octets = Items { heap, fault }.octets(text)?;
     Ok(Plmn::from_octets(octets).ok_or(fault)?)
 }
 
-fn image_in(heap: Global, text: &str) -> Result<[u8; 48], Failed<BadCommand>> {
+fn image_in(heap: Global, text: &str) -> Result<[u8; 48], Failed<BadCommand>>
+    ensures value { UnlessShort result (λ r. r ≡ ok_or (octets_in 48 (octets_or_none text.now)) BadImage) }
+{
     let fault = BadCommand::BadImage;
     Items { heap, fault }.octets(text)
 }
 
 // What a verb asks for with the words behind it.
-fn command_of(heap: Global, verb: Verb, words: &[&str]) -> Result<Command, Failed<BadCommand>> {
+fn command_of(heap: Global, verb: Verb, words: &[&str]) -> Result<Command, Failed<BadCommand>>
+    ensures value { UnlessShort result (Asks verb (map (λ word. word.now) words.now)) }
+{
     match (verb, words) {
         (Verb::Load, words) => load(heap, &parts_in(heap, words)?),
         (Verb::Write, words) => Ok(write(heap, &parts_in(heap, words)?)?),
@@ -106,19 +131,21 @@ fn command_of(heap: Global, verb: Verb, words: &[&str]) -> Result<Command, Faile
     }
 }
 
-// What a line asks for, or why it is not understood.
-fn asked(heap: Global, line: &str) -> Result<Command, Failed<BadCommand>> {
-    let text = line.split_once('#').map_or(line, |(text, _)| text);
-    let words = text.split_whitespace().collect::<Vec<&str>>(heap)?;
-    match words.as_slice() {
+// What the words of a line ask for, or why they are not understood.
+fn asked(heap: Global, words: &[&str]) -> Result<Command, Failed<BadCommand>>
+    ensures value { UnlessShort result (AsksWords (map (λ word. word.now) words.now)) }
+{
+    match words {
         [] => Ok(Command::Blank),
         [verb, words @ ..] => command_of(heap, verb.parse()?, words),
     }
 }
 
 // The command of a line.
-pub fn command_in(heap: Global, line: &str) -> Result<Command, AllocError> {
-    match asked(heap, line) {
+pub fn command_in(heap: Global, line: &str) -> Result<Command, AllocError>
+    ensures value { IfOk result (AsksFor line.now) }
+{
+    match asked(heap, words_in(heap, line)?.as_slice()) {
         Ok(command) => Ok(command),
         Err(Failed::Bad(reason)) => Ok(Command::Bad(reason)),
         Err(Failed::Memory(error)) => Err(error),

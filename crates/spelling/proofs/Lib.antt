@@ -1,1 +1,2 @@
 pub mod Spells
+pub mod Cutting

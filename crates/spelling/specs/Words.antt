@@ -1,5 +1,8 @@
 -- Words of a line.
-use Rattle.std.specs.Prelude.{◌≡◌, ℕ, List, Option, Result, IfErr, MatchOption, ◌≢◌}
+use Rattle.std.specs.Prelude.{◌≡◌, ℕ, ◌<◌, List, [], ◌∷◌, ◌++◌, length, Option, Result, IfErr, MatchOption, ◌≢◌, ◌==◌}
+use Rattle.std.specs.Char.{is_whitespace, is_not_whitespace}
+use Rattle.std.specs.List.{before_first}
+use Rattle.std.specs.Str.{NoCharPasses, EmptyOrStartsWithPassing}
 use Rattle.std.specs.Result.{result_ok}
 
 -- a text is the word of what is found, and of nothing where none is
@@ -9,3 +12,14 @@ Word {X} spelled text r = MatchOption r ((x : X) → text ≢ spelled x) (λ x. 
 -- a text is read as the word of what is found; where it is the word of nothing, that is the fault
 abbrev pub ReadsWord : {X E : Type 0} → (X → List ℕ) → E → List ℕ → Result X E → Type 0
 ReadsWord spelled fault text r = Word spelled text (result_ok r) × IfErr r (λ e. e ≡ fault)
+
+-- a comment begins with '#'
+abbrev pub uncommented : List ℕ → List ℕ
+uncommented line = before_first (λ c. c == 35) line
+
+-- the words of a text, with white space between them, and nothing but white space before and behind
+abbrev pub CutsInto : List ℕ → List (List ℕ) → Type 0
+CutsInto text [] = NoCharPasses is_not_whitespace text
+CutsInto text (word ∷ words) =
+    (gap : List ℕ) × (rest : List ℕ) × (text ≡ gap ++ (word ++ rest)) × (0 < length word) × NoCharPasses is_not_whitespace gap × NoCharPasses is_whitespace word
+    × ((more : List ℕ) × EmptyOrStartsWithPassing is_whitespace rest more) × CutsInto rest words
