@@ -12,11 +12,12 @@ use stores::{
     whole_card,
 };
 use texts::{Given, Hex};
+use vocabulary::Refusal;
 
 fn tell(rt: &HostRuntime, store: Kind, answer: Result<(), StoreFault>) -> io::Result<()> {
     match answer {
         Ok(()) => println!(rt; "{store}: done"),
-        Err(fault) => println!(rt; "{store}: {}", fault.refusal()),
+        Err(fault) => println!(rt; "{store}: {}", Refusal::from(fault)),
     }
 }
 
@@ -24,7 +25,7 @@ fn tell(rt: &HostRuntime, store: Kind, answer: Result<(), StoreFault>) -> io::Re
 fn show<R: CardReader>(rt: &HostRuntime, store: Kind, reader: &R) -> io::Result<()> {
     match whole_card(reader) {
         Ok(card) => println!(rt; "{store}: {}", Given(card)),
-        Err(fault) => println!(rt; "{store}: {}", fault.refusal()),
+        Err(fault) => println!(rt; "{store}: {}", Refusal::from(fault)),
     }
 }
 
@@ -77,7 +78,9 @@ fn run(rt: &HostRuntime, stores: &mut Stores, command: &Command) -> io::Result<(
         }
         Command::CopyInto(kind) => copy_into(rt, stores, *kind),
         Command::Damage => damage(rt, stores.image),
-        Command::Refused(fault) => { println!(rt; "{} {}", fault.refusal(), UnlawfulPart(*fault)) }
+        Command::Refused(fault) => {
+            println!(rt; "{} {}", Refusal::from(*fault), UnlawfulPart(*fault))
+        }
         Command::Bad(reason) => println!(rt; "bad line: {reason}"),
     }
 }

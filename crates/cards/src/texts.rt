@@ -37,7 +37,7 @@ impl<T: fmt::Display> fmt::Display for OrDash<T> {
 impl fmt::Display for Given<PacketRecord> {
     fn fmt<W: fmt::Write>(&self, f: &mut fmt::Formatter<W>) -> fmt::Result {
         let PacketRecord { base, signature } = self.0;
-        let status = base.status.number();
+        let status = u8::from(base.status);
         let identity = OrDash(base.identity.map(|tmsi| Hex(tmsi.octets())));
         let signature = OrDash(signature.map(|signature| Hex(signature.octets())));
         let area = OrDash(base.area.map(|rai| Hex(Rai::octets(Some(rai)))));
@@ -49,7 +49,7 @@ impl fmt::Display for Given<PacketRecord> {
 impl fmt::Display for Given<Record<Lai>> {
     fn fmt<W: fmt::Write>(&self, f: &mut fmt::Formatter<W>) -> fmt::Result {
         let record = self.0;
-        let status = record.status.number();
+        let status = u8::from(record.status);
         let identity = OrDash(record.identity.map(|tmsi| Hex(tmsi.octets())));
         let area = OrDash(record.area.map(|lai| Hex(Lai::octets(Some(lai)))));
         let key = KeyNumber::written(record.key);
