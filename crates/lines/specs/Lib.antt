@@ -4,3 +4,4 @@ pub mod Fields
 pub mod Values
 pub mod Sets
 pub mod Words
+pub mod Writes

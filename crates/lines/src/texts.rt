@@ -1,9 +1,10 @@
 // A line of text: a frame in hexadecimal, or a message to be written.
-ghost use Rattle.std.specs.Prelude.{◌≡◌, false, [], IfOk, None};
+ghost use Rattle.std.specs.Prelude.{◌≡◌, true, false, [], IfOk, None};
 ghost use Rattle.lines.specs.Spelling.{spelled};
 ghost use Rattle.lines.specs.Asked.{Asks, command};
+ghost use Rattle.lines.specs.Writes.{Writes};
 
-use crate::commands::message_in;
+use crate::commands::write_line;
 use answers::Line;
 use spelling::{Failed, spelled};
 use std::alloc::{AllocError, Global};
@@ -20,16 +21,9 @@ fn frame_line(heap: Global, text: &[u8]) -> Result<Line, AllocError>
     }
 }
 
-fn write_line(heap: Global, text: &str) -> Result<Line, AllocError> {
-    match message_in(heap, text) {
-        Ok(message) => Ok(Line::Write(message)),
-        Err(Failed::Bad(reason)) => Ok(Line::Bad(reason)),
-        Err(Failed::Memory(error)) => Err(error),
-    }
-}
-
 // What a line asks for: a command begins with a `w`, every other line is a frame in hexadecimal.
 pub fn line_in(heap: Global, text: &str) -> Result<Line, AllocError>
+    ensures written { command text.now ≡ true → IfOk result (Writes text.now) }
     ensures value { command text.now ≡ false → IfOk result (λ line. Asks line (spelled [] None text.now)) }
 {
     match text.as_bytes() {

@@ -5,6 +5,7 @@ ghost use Rattle.spelling.specs.Failed.{UnlessShort};
 ghost use Rattle.lines.specs.Sets.{Sets};
 ghost use Rattle.lines.specs.Values.{key_in};
 ghost use Rattle.lines.specs.Words.{putting};
+ghost use Rattle.lines.specs.Writes.{Takes};
 
 use crate::fields::{Fields, belongs};
 use crate::words::Kind;
@@ -91,7 +92,9 @@ impl Fields {
         heap: Global,
         kind: Kind,
         word: &str,
-    ) -> Result<(), Failed<BadLine>> {
+    ) -> Result<(), Failed<BadLine>>
+        ensures value { UnlessShort result (λ r. Takes kind self.old word.now r self.new) }
+    {
         let (name, value) = word.split_once('=').ok_or(BadLine::NoValue)?;
         let name = name.parse()?;
         if !belongs(kind, name) {
