@@ -1,6 +1,6 @@
 -- Every message has room in an area of 64 octets.
-use Rattle.std.proofs.Common.{◌≡◌, ℕ, ◌≤◌, eqb, ltb, List, length, Some, None, Ok, Err, Option, refl, ◌∙◌, arith, lit≤, length-append, length-take}
-use Rattle.std.proofs.lemmas.Bool.{and_parts, eqb-true, cond-false, le-ltb}
+use Rattle.std.proofs.Common.{◌≡◌, ◌≤◌, eqb, length, Some, None, Option, refl, arith, lit≤, length-append, length-take}
+use Rattle.std.proofs.lemmas.Bool.{and_parts, eqb-true}
 use Rattle.vocabulary.specs.Places.{lai_octets, rai_octets}
 use Rattle.identities.specs.declared.values.Imsi.{Imsi}
 use Rattle.vocabulary.specs.declared.values.Lai.{Lai}
@@ -8,11 +8,9 @@ use Rattle.vocabulary.specs.declared.values.Rai.{Rai}
 use Rattle.identities.specs.declared.values.Signature.{Signature}
 use Rattle.identities.specs.declared.values.Tmsi.{Tmsi}
 use Rattle.frames.specs.Octets.{octets_of, identity_octets, sent_p_tmsi, signature_element, attach_signature}
-use Rattle.frames.specs.Written.{answered}
 use Rattle.frames.specs.declared.terminal.Terminal.{Terminal}
 use Rattle.frames.specs.declared.uplink.Uplink.{Uplink}
 use Rattle.frames.specs.declared.uplink.Uplink.TheVariants.{AttachRequest, AttachComplete, DetachRequest, UpdateRequest, UpdateComplete, DetachIndication, LocationRequest, TmsiComplete}
-use Rattle.frames.specs.declared.uplink.WriteFault.{WriteFault}
 
 sizes : (t : Terminal) → (length t.capability ≡ 2) × (length t.drx ≡ 2) × (length t.radio ≡ 12)
 sizes t =
@@ -47,10 +45,3 @@ room UpdateComplete = lit≤ tt
 room (DetachIndication t s) = simp length-append (omega (arith, identity s.tmsi s.imsi))
 room (LocationRequest u t s) = simp length-append (omega (arith, lai s.lai, identity s.tmsi s.imsi))
 room TmsiComplete = lit≤ tt
-
--- so the writer never lacks room
-pub never_full : (m : Uplink) (area : List ℕ) (fault : WriteFault) → length area ≡ 64 → Err fault ≡ answered (octets_of m) area → ⊥
-never_full m area fault e h =
-    let fits = le-ltb (length area) (length (octets_of m)) (omega (arith, room m)) in
-    let bad : Err fault ≡ Ok (length (octets_of m)) = h ∙ cond-false (ltb (length area) (length (octets_of m))) _ _ fits in
-    let z : ◌≡◌ {A = ℕ} 0 1 = cc in omega arith

@@ -22,7 +22,7 @@ impl Octets {
     }
 }
 
-#[derive(Clone, Copy)]
+#[derive(Clone, Copy, PartialEq, Eq)]
 pub enum Answer {
     Nothing,
     Read(Downlink),
@@ -41,14 +41,13 @@ pub fn frame_answer(octets: &[u8]) -> Answer
     }
 }
 
+#[tactic(auto, using(crate::proofs::Room::room))]
 fn message_answer(message: &Uplink) -> Answer
     ensures value { result ≡ message_answer message.now }
 {
     let mut area = [0; 64];
-    match frames::write(message, &mut area) {
-        Ok(len) => Answer::Written(*message, Octets { area, len }),
-        Err(_) => unreachable(),
-    }
+    let len = frames::write(message, &mut area).unwrap();
+    Answer::Written(*message, Octets { area, len })
 }
 
 // The answer to every line.

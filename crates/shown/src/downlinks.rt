@@ -1,7 +1,4 @@
 // A frame by its name in the standard, and every field that was read.
-ghost use Rattle.std.specs.Prelude.{◌≡◌};
-ghost use Rattle.frames.specs.Causes.{cause_number};
-
 use crate::Shown;
 use frames::{Cause, Downlink, PacketAccept};
 use std::fmt;
@@ -53,29 +50,9 @@ impl fmt::Display for Shown<PacketAccept> {
     }
 }
 
-fn cause_number(cause: Cause) -> u8
-    ensures value { result ≡ cause_number cause }
-{
-    match cause {
-        Cause::ImsiUnknownInHlr => 2,
-        Cause::IllegalMs => 3,
-        Cause::IllegalMe => 6,
-        Cause::GprsNotAllowed => 7,
-        Cause::GprsAndNonGprsNotAllowed => 8,
-        Cause::IdentityCannotBeDerived => 9,
-        Cause::ImplicitlyDetached => 10,
-        Cause::PlmnNotAllowed => 11,
-        Cause::LocationAreaNotAllowed => 12,
-        Cause::RoamingNotAllowed => 13,
-        Cause::GprsNotAllowedInPlmn => 14,
-        Cause::NoSuitableCells => 15,
-        Cause::Other(number) => number,
-    }
-}
-
 impl fmt::Display for Shown<Cause> {
     fn fmt<W: fmt::Write>(&self, f: &mut fmt::Formatter<W>) -> fmt::Result {
-        write!(f, "cause={} ", cause_number(self.0))?;
+        write!(f, "cause={} ", u8::from(self.0))?;
         f.write_str(match self.0 {
             Cause::ImsiUnknownInHlr => "IMSI unknown in HLR",
             Cause::IllegalMs => "Illegal MS",
