@@ -213,21 +213,23 @@ impl Imsi {
         self.coded()
     }
 
-    // Written out octet by octet, since so it reads as the layout does; a loop over pairs of digits would be no plainer.
     fn coded(self) -> [u8; 9]
         ensures { result ≡ imsi_octets self }
     {
         let kind = if self.len % 2 == 1 { 9 } else { 1 };
+        let [c, d, e, f, g, h, i]: [u8; 7] = array::from_fn(|pair| {
+            self.half(2 * pair + 2) * 16 + self.half(2 * pair + 1)
+        });
         [
             (self.len / 2 + 1) as u8,
             self.half(0) * 16 + kind,
-            self.half(2) * 16 + self.half(1),
-            self.half(4) * 16 + self.half(3),
-            self.half(6) * 16 + self.half(5),
-            self.half(8) * 16 + self.half(7),
-            self.half(10) * 16 + self.half(9),
-            self.half(12) * 16 + self.half(11),
-            self.half(14) * 16 + self.half(13),
+            c,
+            d,
+            e,
+            f,
+            g,
+            h,
+            i,
         ]
     }
 
