@@ -1,5 +1,5 @@
 -- The meaning of a card store: a slot that is empty or holds a card.
-use Rattle.std.specs.Prelude.{List, Some, None, Ok, Err, Option, Result}
+use Rattle.std.specs.Prelude.{◌≡◌, List, Some, None, Ok, Err, Option, Result}
 use Rattle.std.specs.Option.{ok_or, option_map}
 use Rattle.vocabulary.specs.declared.values.Plmn.{Plmn}
 use Rattle.vocabulary.specs.declared.values.Lai.{Lai}
@@ -32,6 +32,11 @@ needing = asked (λ _. tt)
 
 abbrev pub written : (Card → Card) → Slot → Slot
 written = option_map
+
+-- the card is another, of which this holds beside the old one; where there is none nothing changes
+abbrev pub Changed : (Card → Card → Type 0) → Slot → Slot → Type 0
+Changed Becomes None after = after ≡ None
+Changed Becomes (Some c) after = (d : Card) × Becomes c d × (after ≡ Some d)
 
 -- a write replaces one part, and the others are as before
 abbrev pub put_imsi : Imsi → Card → Card

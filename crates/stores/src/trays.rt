@@ -1,6 +1,6 @@
 // Stores that keep a card whole: they answer and are written alike, whatever they keep it as.
 ghost use Rattle.std.specs.Prelude.{◌≡◌};
-ghost use Rattle.stores.specs.Slots.{Slot, asked};
+ghost use Rattle.stores.specs.Slots.{Slot, asked, needing, Changed};
 
 use crate::{CardReader, CardStore, StoreFault};
 use card::{Card, PacketRecord, Record};
@@ -23,6 +23,17 @@ fn held<T: Tray>(tray: &T) -> Result<Card, StoreFault>
     ensures value { result ≡ asked (λ c. c) (T.Tray.slot tray.now) }
 {
     tray.card().ok_or(StoreFault::NoCard)
+}
+
+// Puts another card in the place of the one that is there.
+fn change<T: Tray, F: FnOnce(Card) -> Card>(tray: &mut T, made: F) -> Result<(), StoreFault>
+    requires { F.IsAlwaysCallable made }
+    ensures answer { result ≡ needing (T.Tray.slot tray.old) }
+    ensures after { Changed (F.post made) (T.Tray.slot tray.old) (T.Tray.slot tray.new) }
+{
+    let card = held(tray)?;
+    tray.put(Some(made(card)));
+    Ok(())
 }
 
 impl<T: Tray> CardReader for T {
@@ -65,35 +76,36 @@ impl<T: Tray> CardStore for T {
     }
 
     fn write_imsi(&mut self, part: Imsi) -> Result<(), StoreFault> {
-        let card = held(self)?;
-        self.put(Some(Card { imsi: part, ..card }));
-        Ok(())
+        change(self, |card| Card { imsi: part, ..card })
     }
 
     fn write_packet(&mut self, part: PacketRecord) -> Result<(), StoreFault> {
-        let card = held(self)?;
-        self.put(Some(Card {
-            packet: part,
-            ..card
-        }));
-        Ok(())
+        change(
+            self,
+            |card| Card {
+                packet: part,
+                ..card
+            },
+        )
     }
 
     fn write_circuit(&mut self, part: Record<Lai>) -> Result<(), StoreFault> {
-        let card = held(self)?;
-        self.put(Some(Card {
-            circuit: part,
-            ..card
-        }));
-        Ok(())
+        change(
+            self,
+            |card| Card {
+                circuit: part,
+                ..card
+            },
+        )
     }
 
     fn write_forbidden(&mut self, part: PlmnBar) -> Result<(), StoreFault> {
-        let card = held(self)?;
-        self.put(Some(Card {
-            forbidden: part,
-            ..card
-        }));
-        Ok(())
+        change(
+            self,
+            |card| Card {
+                forbidden: part,
+                ..card
+            },
+        )
     }
 }
