@@ -8,7 +8,8 @@ pub enum Layer {
     Engine,
 }
 
-// Octets of a frame count from 1; the octet is 0 where the host's own call is at fault.
+// Octets of a frame count from 1; the octet is 0 where the host's own call is at fault. The number stays a number, since
+// that is what the host reads; each library has an enum of its own for what went wrong.
 #[derive(Clone, Copy, PartialEq, Eq)]
 pub struct Refusal {
     pub number: u8,
