@@ -67,11 +67,16 @@ def twins():
 
 
 def unrolled():
+    """Calls of one function by three numbers or more with one step between them; tests name cases, and are passed over."""
     for path, name, head, body in FUNCTIONS:
-        calls = collections.Counter(m[1] for m in re.finditer(r"(\w+)\((?:[^()]*, ?)?\d+\)", body))
-        for callee, n in calls.items():
-            if n >= 3:
-                yield f"{path}: {name} calls {callee} {n} times by number"
+        calls = collections.defaultdict(set)
+        for m in re.finditer(r"(\w+)\((?:[^()]*, ?)?(\d+)\)", body):
+            calls[m[1]].add(int(m[2]))
+        for callee, numbers in calls.items():
+            at = sorted(numbers)
+            steps = {b - a for a, b in zip(at, at[1:])}
+            if len(at) >= 3 and len(steps) == 1 and "tests" not in path:
+                yield f"{path}: {name} calls {callee} at {at[0]} to {at[-1]} by number"
 
 
 def tables():

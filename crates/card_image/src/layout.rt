@@ -75,11 +75,11 @@ fn forbidden_octets(forbidden: &PlmnBar) -> [u8; 12]
     ensures once { distinct same_plmn forbidden.now ≡ true }
 {
     let list = forbidden.entries();
-    // Place by place: with `array::from_fn` over the places the proof did not close.
-    let [a, b, c] = place_octets(list, 0);
-    let [d, e, f] = place_octets(list, 1);
-    let [g, h, i] = place_octets(list, 2);
-    let [j, k, l] = place_octets(list, 3);
+    let mut places = [[0xff; 3]; 4];
+    for (place, octets) in places.iter_mut().enumerate() {
+        *octets = place_octets(list, place);
+    }
+    let [[a, b, c], [d, e, f], [g, h, i], [j, k, l]] = places;
     [a, b, c, d, e, f, g, h, i, j, k, l]
 }
 
