@@ -9,6 +9,7 @@ use identities::Imsi;
 use lists::PlmnBar;
 use vocabulary::{Lai, Plmn};
 
+// A value and no closure, since a line of text gives it and a host may keep it.
 #[derive(Clone, Copy)]
 pub enum Step {
     Load(Card),
