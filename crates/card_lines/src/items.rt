@@ -35,7 +35,7 @@ impl Items {
         Ok(octets_in(octets.as_slice()).ok_or(self.fault)?)
     }
 
-    // Octets or `-`, which is none.
+    // Octets or `-`: a card may have none, so that none is a value here and no failure.
     pub(crate) fn octets_or_dash<const N: usize>(
         self,
         text: &str,
