@@ -1,6 +1,5 @@
 -- Every message has room in an area of 64 octets.
-use Rattle.std.proofs.Common.{◌≡◌, ◌≤◌, eqb, length, Some, None, Option, refl, arith, lit≤, length-append, length-take}
-use Rattle.std.proofs.lemmas.Bool.{and_parts, eqb-true}
+use Rattle.std.proofs.Common.{◌≡◌, ◌≤◌, length, Some, None, Option, refl, arith, lit≤, length-append, length-take}
 use Rattle.vocabulary.specs.Places.{lai_octets, rai_octets}
 use Rattle.identities.specs.declared.values.Imsi.{Imsi}
 use Rattle.vocabulary.specs.declared.values.Lai.{Lai}
@@ -13,10 +12,7 @@ use Rattle.frames.specs.declared.uplink.Uplink.{Uplink}
 use Rattle.frames.specs.declared.uplink.Uplink.TheVariants.{AttachRequest, AttachComplete, DetachRequest, UpdateRequest, UpdateComplete, DetachIndication, LocationRequest, TmsiComplete}
 
 sizes : (t : Terminal) → (length t.capability ≡ 2) × (length t.drx ≡ 2) × (length t.radio ≡ 12)
-sizes t =
-    let first = and_parts (eqb (length t.capability) 2) _ t.sized in
-    let second = and_parts (eqb (length t.drx) 2) (eqb (length t.radio) 12) first.1 in
-    (eqb-true (length t.capability) 2 first.0, eqb-true (length t.drx) 2 second.0, eqb-true (length t.radio) 12 second.1)
+sizes t = (grind (arith, t.sized), grind (arith, t.sized), grind (arith, t.sized))
 
 identity : (t : Option Tmsi) (i : Imsi) → length (identity_octets t i) ≤ 9
 identity (Some t) i = lit≤ tt

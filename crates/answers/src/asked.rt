@@ -140,5 +140,6 @@ pub enum Line {
     Frame(Vec<u8>),
     // A message of the modem, to be written.
     Write(Uplink),
+    // Why the line is not understood: a case and no error, since it is answered like any other.
     Bad(BadLine),
 }

@@ -34,6 +34,7 @@ pub enum Command {
     Damage,
     // A card is given with a part that is not lawful.
     Refused(Unlawful),
+    // Why the line is not understood: a case and no error, since it is shown like any other.
     Bad(BadCommand),
 }
 

@@ -1,10 +1,11 @@
 // The items of a part: numbers in base ten, octets in hexadecimal, and `-` for none.
-ghost use Rattle.std.specs.Prelude.{◌≡◌};
+ghost use Rattle.std.specs.Prelude.{◌≡◌, IfErr};
 ghost use Rattle.std.specs.Option.{ok_or};
+ghost use Rattle.std.specs.Str.Parse.{ParsesUnsigned};
 ghost use Rattle.spelling.specs.Failed.{UnlessShort};
 ghost use Rattle.spelling.specs.Octets.{octets_or_none};
 ghost use Rattle.spelling.specs.Sized.{octets_in};
-ghost use Rattle.card_lines.specs.Items.{identity_bits, signature_bits};
+ghost use Rattle.card_lines.specs.Items.{OctetsOrDash, identity_bits, signature_bits};
 
 use crate::BadCommand;
 use spelling::{Failed, octets_in, octets_or_none};
@@ -18,7 +19,11 @@ pub(crate) struct Items {
 }
 
 impl Items {
-    pub(crate) fn number(self, text: &str) -> Result<u8, BadCommand> {
+    // A number in base ten, as the library reads one.
+    pub(crate) fn number(self, text: &str) -> Result<u8, BadCommand>
+        ensures value { ParsesUnsigned 8 10 text.now result }
+        ensures fault { IfErr result (λ fault. fault ≡ self.fault) }
+    {
         text.parse().ok().ok_or(self.fault)
     }
 
@@ -30,11 +35,13 @@ impl Items {
         Ok(octets_in(octets.as_slice()).ok_or(self.fault)?)
     }
 
-    // Octets or `-`, which is none.
+    // Octets or `-`: a card may have none, so that none is a value here and no failure.
     pub(crate) fn octets_or_dash<const N: usize>(
         self,
         text: &str,
-    ) -> Result<Option<[u8; N]>, Failed<BadCommand>> {
+    ) -> Result<Option<[u8; N]>, Failed<BadCommand>>
+        ensures value { UnlessShort result (OctetsOrDash N text.now self.fault) }
+    {
         match text {
             "-" => Ok(None),
             text => Ok(Some(self.octets(text)?)),

@@ -19,49 +19,51 @@ pub(crate) struct Parts {
     forbidden: Option<Vec<[u8; 3]>>,
 }
 
-// The items that the records of both sides have.
-fn record_in<const N: usize>(
-    items: Items,
-    [status, identity, area, key]: [&str; 4],
-) -> Result<RecordFields<[u8; N]>, Failed<BadCommand>> {
-    Ok(RecordFields {
-        status: items.number(status)?,
-        identity: items.octets_or_dash(identity)?.map(identity_bits),
-        area: items.octets_or_dash(area)?,
-        key: items.number(key)?,
-    })
-}
-
-// STATUS,IDENTITY,SIGNATURE,RAI,KEY
-fn packet_in(items: Items, text: &str) -> Result<PacketFields, Failed<BadCommand>> {
-    let words = text.split(',').collect::<Vec<&str>>(items.heap)?;
-    let [status, identity, signature, area, key] = words.as_slice() else {
-        return Err(items.fault.into());
-    };
-    Ok(PacketFields {
-        base: record_in(items, [status, identity, area, key])?,
-        signature: items.octets_or_dash(signature)?.map(signature_bits),
-    })
-}
-
-// STATUS,IDENTITY,LAI,KEY
-fn circuit_in(items: Items, text: &str) -> Result<RecordFields<[u8; 5]>, Failed<BadCommand>> {
-    let words = text.split(',').collect::<Vec<&str>>(items.heap)?;
-    let [status, identity, area, key] = words.as_slice() else {
-        return Err(items.fault.into());
-    };
-    record_in(items, [status, identity, area, key])
-}
-
-// Networks with commas between them, or `-` for none.
-fn forbidden_in(items: Items, text: &str) -> Result<Vec<[u8; 3]>, Failed<BadCommand>> {
-    let mut plmns = Vec::new(items.heap);
-    if text != "-" {
-        for item in text.split(',') {
-            plmns.push(items.octets(item)?)?;
-        }
+impl Items {
+    // The items that the records of both sides have.
+    fn record<const N: usize>(
+        self,
+        [status, identity, area, key]: [&str; 4],
+    ) -> Result<RecordFields<[u8; N]>, Failed<BadCommand>> {
+        Ok(RecordFields {
+            status: self.number(status)?,
+            identity: self.octets_or_dash(identity)?.map(identity_bits),
+            area: self.octets_or_dash(area)?,
+            key: self.number(key)?,
+        })
     }
-    Ok(plmns)
+
+    // STATUS,IDENTITY,SIGNATURE,RAI,KEY
+    fn packet(self, text: &str) -> Result<PacketFields, Failed<BadCommand>> {
+        let words = text.split(',').collect::<Vec<&str>>(self.heap)?;
+        let [status, identity, signature, area, key] = words.as_slice() else {
+            return Err(self.fault.into());
+        };
+        Ok(PacketFields {
+            base: self.record([status, identity, area, key])?,
+            signature: self.octets_or_dash(signature)?.map(signature_bits),
+        })
+    }
+
+    // STATUS,IDENTITY,LAI,KEY
+    fn circuit(self, text: &str) -> Result<RecordFields<[u8; 5]>, Failed<BadCommand>> {
+        let words = text.split(',').collect::<Vec<&str>>(self.heap)?;
+        let [status, identity, area, key] = words.as_slice() else {
+            return Err(self.fault.into());
+        };
+        self.record([status, identity, area, key])
+    }
+
+    // Networks with commas between them, or `-` for none.
+    fn forbidden(self, text: &str) -> Result<Vec<[u8; 3]>, Failed<BadCommand>> {
+        let mut plmns = Vec::new(self.heap);
+        if text != "-" {
+            for item in text.split(',') {
+                plmns.push(self.octets(item)?)?;
+            }
+        }
+        Ok(plmns)
+    }
 }
 
 // A record of a card that was never registered.
@@ -95,9 +97,9 @@ impl Parts {
         let items = Items { heap, fault };
         match part {
             Part::Imsi => self.imsi = Some(digits_in(heap, value.as_bytes())?),
-            Part::Packet => self.packet = Some(packet_in(items, value)?),
-            Part::Circuit => self.circuit = Some(circuit_in(items, value)?),
-            Part::Forbidden => self.forbidden = Some(forbidden_in(items, value)?),
+            Part::Packet => self.packet = Some(items.packet(value)?),
+            Part::Circuit => self.circuit = Some(items.circuit(value)?),
+            Part::Forbidden => self.forbidden = Some(items.forbidden(value)?),
         }
         Ok(())
     }

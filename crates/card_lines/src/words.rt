@@ -8,6 +8,7 @@ use crate::BadCommand;
 use std::fmt;
 use std::str::FromStr;
 
+// What is to be done: an enum, since it is read from a text and each wants other words behind it.
 #[derive(Clone, Copy, PartialEq, Eq, Debug)]
 pub(crate) enum Verb {
     Load,

@@ -1,5 +1,5 @@
 // The fields of a message to be written, and the message that they make.
-ghost use Rattle.std.specs.Prelude.{◌≡◌, [], ◌∷◌, replicate, None};
+ghost use Rattle.std.specs.Prelude.{◌≡◌, [], ◌∷◌, replicate, MatchOption, None, Ok, Some};
 ghost use Rattle.std.specs.Option.{unwrap_or};
 ghost use Rattle.lines.specs.Fields.{belongs, packet_of, circuit_of, routing_of, location_of, detach_of, message_of};
 
@@ -95,34 +95,59 @@ fn circuit_of(fields: &Fields) -> Result<CircuitStored, BadLine>
     })
 }
 
-fn routing_of(word: Option<TypeWord>) -> Result<RoutingUpdate, BadLine>
-    ensures value { result ≡ routing_of word }
-{
-    match word {
-        None | Some(TypeWord::Normal) => Ok(RoutingUpdate::Normal),
-        Some(TypeWord::Periodic) => Ok(RoutingUpdate::Periodic),
-        Some(_) => Err(BadLine::BadValue(Name::Type)),
+impl TryFrom<TypeWord> for RoutingUpdate {
+    type Error = BadLine;
+
+    ghost try_from_gives = { λ word result. result ≡ routing_of (Some word) };
+
+    fn try_from(word: TypeWord) -> Result<RoutingUpdate, BadLine> {
+        match word {
+            TypeWord::Normal => Ok(RoutingUpdate::Normal),
+            TypeWord::Periodic => Ok(RoutingUpdate::Periodic),
+            _ => Err(BadLine::BadValue(Name::Type)),
+        }
     }
 }
 
-fn location_of(word: Option<TypeWord>) -> Result<LocationUpdate, BadLine>
-    ensures value { result ≡ location_of word }
-{
-    match word {
-        None | Some(TypeWord::Normal) => Ok(LocationUpdate::Normal),
-        Some(TypeWord::Periodic) => Ok(LocationUpdate::Periodic),
-        Some(TypeWord::ImsiAttach) => Ok(LocationUpdate::ImsiAttach),
-        Some(_) => Err(BadLine::BadValue(Name::Type)),
+impl TryFrom<TypeWord> for LocationUpdate {
+    type Error = BadLine;
+
+    ghost try_from_gives = { λ word result. result ≡ location_of (Some word) };
+
+    fn try_from(word: TypeWord) -> Result<LocationUpdate, BadLine> {
+        match word {
+            TypeWord::Normal => Ok(LocationUpdate::Normal),
+            TypeWord::Periodic => Ok(LocationUpdate::Periodic),
+            TypeWord::ImsiAttach => Ok(LocationUpdate::ImsiAttach),
+            _ => Err(BadLine::BadValue(Name::Type)),
+        }
     }
 }
 
-fn detach_of(word: Option<TypeWord>) -> Result<DetachType, BadLine>
-    ensures value { result ≡ detach_of word }
+impl TryFrom<TypeWord> for DetachType {
+    type Error = BadLine;
+
+    ghost try_from_gives = { λ word result. result ≡ detach_of (Some word) };
+
+    fn try_from(word: TypeWord) -> Result<DetachType, BadLine> {
+        match word {
+            TypeWord::Gprs => Ok(DetachType::Gprs),
+            TypeWord::SwitchOff => Ok(DetachType::SwitchOff),
+            _ => Err(BadLine::BadValue(Name::Type)),
+        }
+    }
+}
+
+// The type that a word names; where it is left out, the usual one.
+fn type_of<T: TryFrom<TypeWord, Error = BadLine> + Drop>(
+    word: Option<TypeWord>,
+    usual: T,
+) -> Result<T, BadLine>
+    ensures value { MatchOption word (result ≡ Ok usual) (λ w. T.try_from_gives w result) }
 {
     match word {
-        None | Some(TypeWord::Gprs) => Ok(DetachType::Gprs),
-        Some(TypeWord::SwitchOff) => Ok(DetachType::SwitchOff),
-        Some(_) => Err(BadLine::BadValue(Name::Type)),
+        None => Ok(usual),
+        Some(word) => T::try_from(word),
     }
 }
 
@@ -133,14 +158,14 @@ pub(crate) fn message_of(kind: Kind, fields: &Fields, terminal: Terminal) -> Res
     match kind {
         Kind::Attach => Ok(Uplink::AttachRequest(terminal, packet_of(fields)?)),
         Kind::Update => {
-            let update = routing_of(fields.word)?;
+            let update = type_of(fields.word, RoutingUpdate::Normal)?;
             Ok(Uplink::UpdateRequest(update, terminal, packet_of(fields)?))
         }
         Kind::Location => {
-            let update = location_of(fields.word)?;
+            let update = type_of(fields.word, LocationUpdate::Normal)?;
             Ok(Uplink::LocationRequest(update, terminal, circuit_of(fields)?))
         }
-        Kind::Detach => Ok(Uplink::DetachRequest(detach_of(fields.word)?)),
+        Kind::Detach => Ok(Uplink::DetachRequest(type_of(fields.word, DetachType::Gprs)?)),
         Kind::Indication => Ok(Uplink::DetachIndication(terminal, circuit_of(fields)?)),
         Kind::AttachComplete => Ok(Uplink::AttachComplete),
         Kind::UpdateComplete => Ok(Uplink::UpdateComplete),

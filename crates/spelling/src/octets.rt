@@ -25,7 +25,7 @@ impl From<Misspelled> for Failed<Misspelled> {
     }
 }
 
-// What a character adds to the octets so far.
+// What a character adds to the octets so far: an enum, since the definition of what is spelled goes by the same cases.
 #[derive(Clone, Copy)]
 pub(crate) enum Step {
     Space,
