@@ -60,6 +60,7 @@ impl<T: Tray> CardReader for T {
     }
 }
 
+// The writes name their part and no more; the interface has one for each.
 impl<T: Tray> CardStore for T {
     fn load(&mut self, card: Card) -> Result<(), StoreFault> {
         if self.has_card() {
