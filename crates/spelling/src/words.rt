@@ -20,3 +20,16 @@ pub fn words_in(heap: Global, line: &str) -> Result<Vec<&str>, AllocError>
 {
     uncommented(line).split_whitespace().collect(heap)
 }
+
+#[cfg(test)]
+mod tests {
+    use super::*;
+    use std::test::Fail;
+
+    #[test]
+    fn comment_is_no_word_of_a_line(rt: HostRuntime) -> Result<(), Fail> {
+        let words = words_in(rt.alloc(), " copy  plain # into image")?;
+        assert_eq!(rt; words.as_slice(), ["copy", "plain"].as_slice());
+        Ok(())
+    }
+}
