@@ -1,5 +1,7 @@
 // Making a lawful card of what is given.
 ghost use Rattle.std.specs.Prelude.{◌≡◌, IfOk};
+ghost use Rattle.std.specs.Option.{ok_or};
+ghost use Rattle.card.specs.declared.fields.Unlawful.TheVariants as unlawful;
 ghost use Rattle.card.specs.Given.{given, key_of, record_from, packet_from, one_more, forbidden_from, card_from};
 ghost use Rattle.card.specs.Laws.{Keeps};
 ghost use Rattle.card.specs.Numbers.{unlawful_refusal};
@@ -10,13 +12,14 @@ use identities::{Imsi, KeyNumber};
 use lists::{PlmnBar, Recent};
 use vocabulary::{Layer, Plmn, Refusal};
 
-fn key_of(number: u8) -> Option<Option<KeyNumber>>
-    ensures { result ≡ key_of number }
+// A key by its number, of which 7 is none.
+fn key_of(number: u8) -> Result<Option<KeyNumber>, Unlawful>
+    ensures { result ≡ ok_or (key_of number) unlawful.Key }
 {
     if number > 7 {
-        return None;
+        return Err(Unlawful::Key);
     }
-    Some(KeyNumber::new(number))
+    Ok(KeyNumber::new(number))
 }
 
 // A record of either side: they differ in the kind of their areas.
@@ -26,9 +29,9 @@ where
     ensures value { result ≡ record_from A.read fields.now }
 {
     let status = Status::try_from(fields.status)?;
-    let identity = part_of(fields.identity).ok_or(Unlawful::Identity)?;
-    let area = part_of(fields.area).ok_or(Unlawful::Area)?;
-    let key = key_of(fields.key).ok_or(Unlawful::Key)?;
+    let identity = part_of(fields.identity, Unlawful::Identity)?;
+    let area = part_of(fields.area, Unlawful::Area)?;
+    let key = key_of(fields.key)?;
     Ok(Record {
         status,
         identity,
@@ -44,7 +47,7 @@ fn packet_from(
     ensures value { result ≡ packet_from fields.now signature }
 {
     let base = record_from(fields)?;
-    let signature = part_of(signature).ok_or(Unlawful::Signature)?;
+    let signature = part_of(signature, Unlawful::Signature)?;
     Ok(PacketRecord { base, signature })
 }
 

@@ -1,7 +1,7 @@
 // A card as it comes from outside, with nothing checked.
 
 // The fields of a registration record; the octets of its area are those of either kind. Status and key are numbers, since
-// they come from outside; `Status` and `KeyNumber` are made of them.
+// a narrower type would ask the caller to check them; `Status` and `KeyNumber` are made of them here.
 #[derive(Clone, Copy)]
 pub struct RecordFields<O> {
     // 1 updated, 2 not updated, 3 not allowed.

@@ -2,8 +2,10 @@
 ghost use Rattle.std.specs.Prelude.{◌≡◌, Option};
 ghost use Rattle.vocabulary.specs.Places.{lai_in, rai_in};
 ghost use Rattle.identities.specs.Identities.{tmsi_when, signature_when};
+ghost use Rattle.std.specs.Option.{ok_or};
 ghost use Rattle.card.specs.Given.{part_of};
 
+use crate::Unlawful;
 use identities::{Signature, Tmsi};
 use vocabulary::{Lai, Rai};
 
@@ -57,12 +59,16 @@ impl Part for Lai {
     }
 }
 
-// What is given as a value has to be one; a mark says none, and is no value.
-pub(crate) fn part_of<P: Part>(given: Option<P::Given>) -> Option<Option<P>>
-    ensures value { result ≡ part_of P.read given }
+// What is given as a value has to be one, or the fault is told; a mark says none, and is no value. Matched, since with `map` and
+// `transpose` the proof of the fault did not close.
+pub(crate) fn part_of<P: Part>(
+    given: Option<P::Given>,
+    fault: Unlawful,
+) -> Result<Option<P>, Unlawful>
+    ensures value { result ≡ ok_or (part_of P.read given) fault }
 {
     match given {
-        Some(given) => Some(Some(P::read(given)?)),
-        None => Some(None),
+        Some(given) => Ok(Some(P::read(given).ok_or(fault)?)),
+        None => Ok(None),
     }
 }

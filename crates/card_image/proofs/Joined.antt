@@ -1,15 +1,7 @@
--- Parts that are put one behind the other.
-use Rattle.std.proofs.Common.{◌≡◌, ℕ, ◌+◌, min, List, ◌++◌, length, take, sym, ap, ◌∙◌, inl, inr, append_assoc, arith}
+-- A front of a front.
+use Rattle.std.proofs.Common.{◌≡◌, ℕ, min, List, take, sym, ap, ◌∙◌, inl, inr, arith}
 use Rattle.std.proofs.lemmas.List.{take-take, take_all, length-take}
 use Rattle.std.proofs.lemmas.Bool.{cases_lt}
-
--- the front of a list that grew by a part, at the place where the part ends
-pub grown : (front part before after : List ℕ) (at end : ℕ) → end ≡ at + length part
-    → take at before ≡ front → take (at + length part) after ≡ take at before ++ part → take end after ≡ front ++ part
-grown front part before after at end e was h = ap (λ n. take n after) e ∙ h ∙ ap (λ f. f ++ part) was
-
-pub regrouped : (a b c d e : List ℕ) → (((a ++ b) ++ c) ++ d) ++ e ≡ a ++ (b ++ (c ++ (d ++ e)))
-regrouped a b c d e = simp append_assoc
 
 -- no more than m of a front of n
 pub take_of_take : (n m : ℕ) (l : List ℕ) → take (min n m) l ≡ take n (take m l)

@@ -1,4 +1,3 @@
-pub mod Compared
 pub mod Joined
 pub mod Meant
 pub mod Networks

@@ -8,6 +8,7 @@ ghost use Rattle.card_image.specs.Meaning.{contents_in, area_fits, lawful_conten
 ghost use Rattle.card_image.specs.Layout.{status_written, identity_bits, signature_bits, packet_octets, circuit_octets, place_octets, forbidden_octets, image};
 ghost use Rattle.identities.specs.Identities.{four_octets, three_octets};
 
+use arrayvec::ArrayVec;
 use card::{Card, PacketRecord, Record, Status};
 use identities::{KeyNumber, Signature, Tmsi};
 use lists::PlmnBar;
@@ -83,17 +84,7 @@ fn forbidden_octets(forbidden: &PlmnBar) -> [u8; 12]
     [a, b, c, d, e, f, g, h, i, j, k, l]
 }
 
-// The image with one part more.
-fn put(image: [u8; 48], at: usize, part: &[u8]) -> [u8; 48]
-    requires { at + length part.now ≤ 48 }
-    ensures front { take (at + length part.now) result ≡ take at image ++ part.now }
-{
-    let mut image = image;
-    let end = at + part.len();
-    image[at..end].copy_from_slice(part);
-    image
-}
-
+// The parts one behind the other.
 fn joined(
     imsi: [u8; 9],
     packet: [u8; 14],
@@ -103,11 +94,13 @@ fn joined(
 ) -> [u8; 48]
     ensures value { result ≡ imsi ++ (packet ++ (circuit ++ (forbidden ++ keys))) }
 {
-    let one = put([0xff; 48], 0, &imsi);
-    let two = put(one, 9, &packet);
-    let three = put(two, 23, &circuit);
-    let four = put(three, 34, &forbidden);
-    put(four, 46, &keys)
+    let mut image = ArrayVec::<u8, 48>::new();
+    image.try_extend_from_slice(&imsi).unwrap();
+    image.try_extend_from_slice(&packet).unwrap();
+    image.try_extend_from_slice(&circuit).unwrap();
+    image.try_extend_from_slice(&forbidden).unwrap();
+    image.try_extend_from_slice(&keys).unwrap();
+    image.into_inner().unwrap()
 }
 
 // The 48 octets that a card is written as. They mean this card, and no other is written so.

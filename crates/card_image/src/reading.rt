@@ -98,11 +98,7 @@ fn likely(image: &[u8; 48]) -> Option<Card>
 fn if_written_so(card: Card, image: &[u8; 48]) -> Option<Card>
     ensures value { result ≡ only_written_so image.now (Some card) }
 {
-    if image_of(&card) == *image {
-        Some(card)
-    } else {
-        None
-    }
+    (image_of(&card) == *image).then_some(card)
 }
 
 // The card that these octets are the image of; none where no card is written so.

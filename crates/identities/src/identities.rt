@@ -150,24 +150,10 @@ fn octet_or_filler(coded: &[u8], at: usize) -> u8
 fn places_of(coded: &[u8]) -> [u8; 15]
     ensures { result ≡ places_of coded.now }
 {
-    let [a, b, c, d, e, f, g, h]: [u8; 8] = array::from_fn(|at| octet_or_filler(coded, at));
-    [
-        a / 16,
-        b % 16,
-        b / 16,
-        c % 16,
-        c / 16,
-        d % 16,
-        d / 16,
-        e % 16,
-        e / 16,
-        f % 16,
-        f / 16,
-        g % 16,
-        g / 16,
-        h % 16,
-        h / 16,
-    ]
+    array::from_fn(|at| {
+        let octet = octet_or_filler(coded, (at + 1) / 2);
+        if at % 2 == 0 { octet / 16 } else { octet % 16 }
+    })
 }
 
 // How many digits a coded identity has, by its length and the low half of its first octet.

@@ -26,7 +26,7 @@ pub struct Signature {
     ghost lawful: { lawful_signature bits ≡ true },
 }
 
-// A ciphering key sequence number.
+// A ciphering key sequence number: the number that the network gave the key, and no code of the program's.
 #[derive(Clone, Copy, PartialEq, Eq)]
 pub struct KeyNumber {
     pub number: u8,

@@ -2,7 +2,7 @@
 use Rattle.std.proofs.Common.{◌≡◌, ℕ, zero, suc, ◌+◌, ◌-◌, ◌<◌, ◌≤◌, true, ◌⊎◌, List, [], ◌∷◌, ◌++◌, length, get_or, drop, Some, None, Option, sym, refl, ap, ◌∙◌, subst, inl, inr, arith}
 use Rattle.std.specs.List.{ContainsAt as Has}
 use Rattle.std.proofs.ByRecursion.{has_push, has_push_cases, has_append_left}
-use Rattle.std.proofs.lemmas.List.{append-nil, append_assoc, length_push, at_drop_more, at_drop_all}
+use Rattle.std.proofs.lemmas.List.{append-nil, append_assoc, at_drop_more, at_drop_all}
 use Rattle.std.proofs.lemmas.Bool.{cases_Bool, cond-true, cond-false, cond_both}
 use Rattle.std.proofs.lemmas.Bool.Decides.{not_from_Decides}
 use Rattle.vocabulary.specs.declared.values.Plmn.{Plmn}
@@ -25,10 +25,6 @@ added_with_room limit kept p room =
           ∙ ap (λ n. drop n (kept ++ p ∷ [])) none
           ∙ sym (cond-false (member same_plmn p kept) _ _ e)
     ]
-
-pub length_followed : (kept : List Plmn) (p : Plmn) → length (followed_by kept p) ≤ length kept + 1
-length_followed kept p =
-    cond_both (member same_plmn p kept) kept (kept ++ p ∷ []) (λ l. length l ≤ length kept + 1) (λ _. omega arith) (λ _. omega (arith, length_push kept p))
 
 -- a loop over the entries: what is left gives the list, one entry on and at the end
 pub entries_more : (forbidden kept after all : List Plmn) (entries : List (Option Plmn)) (i : ℕ) (d : Option Plmn) → i < length entries

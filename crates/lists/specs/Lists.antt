@@ -1,6 +1,6 @@
 -- A list of places runs from the oldest entry to the newest and has no entry twice. Worked out once for whatever entries
 -- a list has: `same` tells whether two are the same.
-use Rattle.std.specs.Prelude.{ℕ, ◌+◌, ◌-◌, Bool, true, false, cond, not, ◌&&◌, ◌||◌, List, [], ◌∷◌, ◌++◌, length, take, drop, filter, ◌==◌, nat_le}
+use Rattle.std.specs.Prelude.{ℕ, ◌+◌, ◌-◌, Bool, true, false, cond, not, ◌&&◌, ◌||◌, List, [], ◌∷◌, ◌++◌, length, drop, filter}
 
 -- whether an entry is on a list
 abbrev pub member : {X : Type 0} → (X → X → Bool) → X → List X → Bool
@@ -19,7 +19,3 @@ added same limit xs x = cond (member same x xs) xs (drop (length xs + 1 - limit)
 -- a list without an entry
 unfoldable pub removed : {X : Type 0} → (X → X → Bool) → List X → X → List X
 removed same xs x = filter (λ y. not (same y x)) xs
-
--- a list is held in as many slots as it may have entries: the first `count` of them are its entries
-abbrev pub lawful_list : {X : Type 0} → (X → X → Bool) → ℕ → List X → ℕ → Bool
-lawful_list same limit slots count = length slots == limit && (nat_le count limit && distinct same (take count slots))

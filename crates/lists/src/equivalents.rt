@@ -1,5 +1,7 @@
 // The networks that are as good as the one that accepted the modem.
-ghost use Rattle.std.specs.Prelude.{◌≡◌, ◌+◌, ◌<◌, ◌≤◌, [], length};
+ghost use Rattle.std.specs.Prelude.{◌≡◌, ◌+◌, ◌<◌, ◌≤◌, true, [], length};
+ghost use Rattle.vocabulary.specs.Same.{same_plmn};
+ghost use Rattle.lists.specs.Lists.{distinct};
 ghost use Rattle.lists.specs.Equivalents.{kept_one, equivalents_from, given_entries};
 ghost use Rattle.lists.specs.Laws.{Equates};
 
@@ -24,6 +26,8 @@ impl EquivalentPlmns {
     // The networks in the order in which they were given, and last the accepted one if it was not among them.
     pub fn entries(&self) -> &[Plmn]
         ensures value { result.now ≡ self.now.networks }
+        ensures bound { length result.now ≤ 6 }
+        ensures once { distinct same_plmn result.now ≡ true }
     {
         self.networks.entries()
     }

@@ -8,7 +8,8 @@ use std::alloc::AllocError;
 use std::marker::Model;
 use vocabulary::Place;
 
-// At most `N` places in the first `count` slots; contracts see the entries. Slots and not a heap, since memory is fixed.
+// At most `N` places in the first `count` slots; contracts see the entries. Slots, since memory is fixed, and no `ArrayVec`,
+// since a list is copied with its card.
 #[derive(Copy)]
 pub struct Recent<T: Place, const N: usize> {
     slots: [T; N],
@@ -30,7 +31,7 @@ impl<T: Place, const N: usize> Model for Recent<T, N> {
     ghost inverse_ok = { λ list held k. record { slots = slots_held held k; count = entries_held held k } };
 }
 
-// By hand, since a derived one would copy the slots entry by entry.
+// By hand: a derived one clones slot by slot, and its proof did not close.
 impl<T: Place, const N: usize> Clone for Recent<T, N> {
     fn clone(&self) -> Result<Recent<T, N>, AllocError> {
         Ok(*self)

@@ -8,12 +8,13 @@ use crate::{Lai, Plmn, Rai};
 fn third_of(half: u8) -> Option<u8>
     ensures { result ≡ third_of half }
 {
-    if half == 15 { None } else { Some(half) }
+    (half != 15).then_some(half)
 }
 
 fn lawful_digits(mcc1: u8, mcc2: u8, mcc3: u8, mnc1: u8, mnc2: u8, mnc3: Option<u8>) -> bool
     ensures { result ≡ lawful_plmn mcc1 mcc2 mcc3 mnc1 mnc2 mnc3 }
 {
+    // Compared one by one: with a chain over the digits and `all` the proof did not close.
     mcc1 < 10
         && mcc2 < 10
         && mcc3 < 10
@@ -39,7 +40,8 @@ fn plmn_when(mcc1: u8, mcc2: u8, mcc3: u8, mnc1: u8, mnc2: u8, mnc3: Option<u8>)
     }
 }
 
-// Octets are read and written by `from_octets` and `octets`, as std's addresses are: `Option` says all that is known of a failure.
+// Octets are read and written by `from_octets` and `octets`, as std's addresses are: `Option` says all that is known of a
+// failure, and `From` for an array of the octets of an area or of none could not stand in this crate.
 impl Plmn {
     // The network that three octets name, if their digits are lawful.
     pub fn from_octets(octets: [u8; 3]) -> Option<Plmn>
