@@ -15,9 +15,9 @@ use vocabulary::{Lai, Rai, gprs_seconds};
 fn parts<const N: usize>(side: Side, frame: &[u8]) -> Result<([u8; N], Found), FrameFault>
     ensures value { result ≡ framed side N frame.now (λ found. Ok (take N frame.now, found)) }
 {
-    let Some(fixed) = frame.first_chunk::<N>() else {
-        return Err(FrameFault::Cut(frame.len() + 1));
-    };
+    let fixed = frame
+        .first_chunk::<N>()
+        .ok_or(FrameFault::Cut(frame.len() + 1))?;
     let found = walk(side, frame, N)?;
     Ok((*fixed, found))
 }
@@ -31,9 +31,7 @@ fn packet_accept(
 ) -> Result<PacketAccept, FrameFault>
     ensures value { result ≡ packet_accept timer at (rai_in area) found }
 {
-    let Some(rai) = Rai::from_octets(area) else {
-        return Err(FrameFault::BadValue(at));
-    };
+    let rai = Rai::from_octets(area).ok_or(FrameFault::BadValue(at))?;
     Ok(PacketAccept {
         t3312: gprs_seconds(timer),
         rai,
@@ -93,9 +91,7 @@ fn location_accept(frame: &[u8]) -> Result<Downlink, FrameFault>
     ensures value { result ≡ location_accept frame.now }
 {
     let ([_, _, a, b, c, d, e], found) = parts::<7>(Side::Circuit, frame)?;
-    let Some(lai) = Lai::from_octets([a, b, c, d, e]) else {
-        return Err(FrameFault::BadValue(3));
-    };
+    let lai = Lai::from_octets([a, b, c, d, e]).ok_or(FrameFault::BadValue(3))?;
     Ok(Downlink::LocationAccept(lai, found.elements()?))
 }
 

@@ -14,7 +14,7 @@ use crate::{
 };
 use vocabulary::{Lai, Rai};
 
-// Each of these takes one message apart and lends its parts to the area: a struct of what is sent and where would serve one call.
+// One writer for each message with parts; a struct of terminal and area would be made for one call and taken apart in it.
 fn attach_request(
     terminal: &Terminal,
     stored: &PacketStored,
