@@ -32,7 +32,7 @@ pub enum Command {
     CopyInto(Kind),
     // What the image means after each of its octets in turn is damaged.
     Damage,
-    // A card is given with a part that is not lawful.
+    // A card is given with a part that is not lawful: a case and no error, since it is shown like any other.
     Refused(Unlawful),
     // Why the line is not understood: a case and no error, since it is shown like any other.
     Bad(BadCommand),

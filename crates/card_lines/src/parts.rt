@@ -1,7 +1,8 @@
 // The parts of a card that a line gives, with nothing checked but their form.
 use crate::items::{Items, identity_bits, signature_bits};
 use crate::{BadCommand, Part};
-use card::{CardFields, RecordFields};
+use card::{CardFields, RecordFields, Status};
+use identities::KeyNumber;
 use spelling::{Failed, digits_in};
 use std::alloc::Global;
 
@@ -33,7 +34,7 @@ impl Items {
         })
     }
 
-    // STATUS,IDENTITY,SIGNATURE,RAI,KEY
+    // STATUS,IDENTITY,SIGNATURE,RAI,KEY. Split here and in `circuit`, since an array of borrowed words gets no proof as a result.
     fn packet(self, text: &str) -> Result<PacketFields, Failed<BadCommand>> {
         let words = text.split(',').collect::<Vec<&str>>(self.heap)?;
         let [status, identity, signature, area, key] = words.as_slice() else {
@@ -69,10 +70,10 @@ impl Items {
 // A record of a card that was never registered.
 fn blank<O>() -> RecordFields<O> {
     RecordFields {
-        status: 2,
+        status: Status::NotUpdated.into(),
         identity: None,
         area: None,
-        key: 7,
+        key: KeyNumber::written(None),
     }
 }
 

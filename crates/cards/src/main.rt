@@ -35,14 +35,6 @@ struct Stores {
     image: ImageStore,
 }
 
-fn steps(rt: &HostRuntime, stores: &mut Stores, steps: &[Step]) -> io::Result<()> {
-    for step in steps {
-        tell(rt, Kind::Plain, take_step(&mut stores.plain, step))?;
-        tell(rt, Kind::Image, take_step(&mut stores.image, step))?;
-    }
-    Ok(())
-}
-
 // Each octet in turn is one more than it was, and FF becomes 00.
 fn damage(rt: &HostRuntime, store: ImageStore) -> io::Result<()> {
     for (at, octet) in store.octets.iter().enumerate() {
@@ -56,32 +48,42 @@ fn damage(rt: &HostRuntime, store: ImageStore) -> io::Result<()> {
     Ok(())
 }
 
-fn copy_into(rt: &HostRuntime, stores: &mut Stores, kind: Kind) -> io::Result<()> {
-    match kind {
-        Kind::Plain => tell(rt, Kind::Plain, copy_card(&stores.image, &mut stores.plain)),
-        Kind::Image => tell(rt, Kind::Image, copy_card(&stores.plain, &mut stores.image)),
+impl Stores {
+    fn take(&mut self, rt: &HostRuntime, steps: &[Step]) -> io::Result<()> {
+        for step in steps {
+            tell(rt, Kind::Plain, take_step(&mut self.plain, step))?;
+            tell(rt, Kind::Image, take_step(&mut self.image, step))?;
+        }
+        Ok(())
     }
-}
 
-fn run(rt: &HostRuntime, stores: &mut Stores, command: &Command) -> io::Result<()> {
-    match command {
-        Command::Blank => Ok(()),
-        Command::Steps(list) => steps(rt, stores, list.as_slice()),
-        Command::Show => {
-            show(rt, Kind::Plain, &stores.plain)?;
-            show(rt, Kind::Image, &stores.image)?;
-            println!(rt; "octets: {}", Hex(stores.image.octets))
+    fn copy_into(&mut self, rt: &HostRuntime, kind: Kind) -> io::Result<()> {
+        match kind {
+            Kind::Plain => tell(rt, Kind::Plain, copy_card(&self.image, &mut self.plain)),
+            Kind::Image => tell(rt, Kind::Image, copy_card(&self.plain, &mut self.image)),
         }
-        Command::Octets(octets) => {
-            stores.image = ImageStore { octets: *octets };
-            show(rt, Kind::Image, &stores.image)
+    }
+
+    fn run(&mut self, rt: &HostRuntime, command: &Command) -> io::Result<()> {
+        match command {
+            Command::Blank => Ok(()),
+            Command::Steps(steps) => self.take(rt, steps.as_slice()),
+            Command::Show => {
+                show(rt, Kind::Plain, &self.plain)?;
+                show(rt, Kind::Image, &self.image)?;
+                println!(rt; "octets: {}", Hex(self.image.octets))
+            }
+            Command::Octets(octets) => {
+                self.image = ImageStore { octets: *octets };
+                show(rt, Kind::Image, &self.image)
+            }
+            Command::CopyInto(kind) => self.copy_into(rt, *kind),
+            Command::Damage => damage(rt, self.image),
+            Command::Refused(fault) => {
+                println!(rt; "{} {}", Refusal::from(*fault), UnlawfulPart(*fault))
+            }
+            Command::Bad(reason) => println!(rt; "bad line: {reason}"),
         }
-        Command::CopyInto(kind) => copy_into(rt, stores, *kind),
-        Command::Damage => damage(rt, stores.image),
-        Command::Refused(fault) => {
-            println!(rt; "{} {}", Refusal::from(*fault), UnlawfulPart(*fault))
-        }
-        Command::Bad(reason) => println!(rt; "bad line: {reason}"),
     }
 }
 
@@ -97,7 +99,7 @@ fn main(rt: HostRuntime) -> io::Result<()> {
         if !matches!(command, Command::Blank) {
             println!(rt; "> {text}")?;
         }
-        run(&rt, &mut stores, &command)?;
+        stores.run(&rt, &command)?;
     }
     Ok(())
 }

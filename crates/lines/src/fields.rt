@@ -69,11 +69,8 @@ fn key_of(fields: &Fields) -> Option<KeyNumber>
 fn packet_of(fields: &Fields) -> Result<PacketStored, BadLine>
     ensures value { result ≡ packet_of fields.now }
 {
-    let Some(imsi) = fields.imsi else {
-        return Err(BadLine::NoImsi);
-    };
     Ok(PacketStored {
-        imsi,
+        imsi: fields.imsi.ok_or(BadLine::NoImsi)?,
         p_tmsi: fields.tmsi,
         signature: fields.signature,
         rai: fields.rai,
@@ -84,17 +81,15 @@ fn packet_of(fields: &Fields) -> Result<PacketStored, BadLine>
 fn circuit_of(fields: &Fields) -> Result<CircuitStored, BadLine>
     ensures value { result ≡ circuit_of fields.now }
 {
-    let Some(imsi) = fields.imsi else {
-        return Err(BadLine::NoImsi);
-    };
     Ok(CircuitStored {
-        imsi,
+        imsi: fields.imsi.ok_or(BadLine::NoImsi)?,
         tmsi: fields.tmsi,
         lai: fields.lai,
         key: key_of(fields),
     })
 }
 
+// A table for each kind of message, since each has words of its own.
 impl TryFrom<TypeWord> for RoutingUpdate {
     type Error = BadLine;
 

@@ -4,7 +4,8 @@ ghost use Rattle.spelling.specs.declared.failed.Failed.TheVariants.{Memory};
 
 use std::alloc::{AllocError, AllocFailed};
 
-// The text is bad, or memory is short.
+// The text is bad, or memory is short. Each kind of fault is converted by an `impl` of its own, since one for all kinds would
+// overlap that for `AllocError`.
 #[derive(Clone, Copy, PartialEq, Eq, Debug)]
 pub enum Failed<F> {
     Bad(F),

@@ -1,4 +1,4 @@
-// What a text spells: octets in hexadecimal, and decimal digits.
+// What a text spells: octets in hexadecimal, decimal digits, and the words of a line.
 #![tactic(auto)]
 
 mod digit;
