@@ -113,7 +113,7 @@ told(1, "Result or Option in a Result, or an Option that holds a fault", lines(r
 told(1, "numbers for kinds, causes, statuses and refusals", lines(r"\b(number|status|kind|cause|key|res|result): u8\b"))
 told(1, "flags beside a value", lines(r"let mut \w+ = (true|false)"))
 told(2, "functions that another has the shape of", twins())
-told(3, "loops and counts by hand", lines(r"^\s*for \w+ in [\w.()]*\.\.|\b(\w+) = \1 \+ |= \w+\.saturating_add\(1\)|\bwhile\b"))
+told(3, "loops and counts by hand", lines(r"^\s*for \w+ in [\w.()]*\.\.|\b(\w+) = \1 \+ |\w \+= |= \w+\.saturating_add\(1\)|\bwhile\b"))
 told(3, "calls unrolled by number", unrolled())
 told(4, "equality or order by hand", lines(r"impl (Partial)?(Eq|Ord) for"))
 told(4, "conversions that are a table alone", tables())
