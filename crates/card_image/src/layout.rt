@@ -21,6 +21,7 @@ fn status_written(status: Status) -> u8
     u8::from(status) - 1
 }
 
+// Two functions of two arms: with `map_or` the proof did not close, and one function would need a trait for their octets.
 fn identity_octets(identity: Option<Tmsi>) -> [u8; 4]
     ensures value { result ≡ four_octets (identity_bits identity) }
 {

@@ -12,6 +12,7 @@ fn lawful_tmsi(bits: u32) -> bool
     bits < 0xffff_ffff
 }
 
+// `new`, `from_octets` and `octets` stay functions, as std's addresses have them: `Option` says all that is known of a failure.
 impl Tmsi {
     // A temporary identity, unless the bits are the mark.
     pub fn new(bits: u32) -> Option<Tmsi>

@@ -41,7 +41,8 @@ impl Bars {
     // Whether a cell is barred to the packet side: also where the network is forbidden for GPRS.
     pub fn to_packet(&self, forbidden: &PlmnBar, cell: Lai) -> bool
         ensures value { result ≡ barred_packet forbidden.now self.now.gprs self.now.regional self.now.roaming cell }
-        ensures law { Decides result ((Has forbidden.now cell.plmn ⊎ (Has self.now.regional cell ⊎ Has self.now.roaming cell)) ⊎ Has self.now.gprs cell.plmn) }
+        ensures law { Decides result ((Has forbidden.now cell.plmn ⊎ (Has self.now.regional cell ⊎ Has self.now.roaming cell))
+            ⊎ Has self.now.gprs cell.plmn) }
     {
         self.to_circuit(forbidden, cell) || self.gprs.contains(&cell.plmn)
     }

@@ -5,7 +5,8 @@ ghost use Rattle.spelling.specs.declared.failed.Failed.TheVariants.{Memory};
 use std::alloc::{AllocError, AllocFailed};
 
 // The text is bad, or memory is short. Each kind of fault is converted by an `impl` of its own, since one for all kinds would
-// overlap that for `AllocError`.
+// overlap that for `AllocError`. Who tells a bad text as a value matches both cases, since a method would need a closure and a
+// `requires` for it.
 #[derive(Clone, Copy, PartialEq, Eq, Debug)]
 pub enum Failed<F> {
     Bad(F),

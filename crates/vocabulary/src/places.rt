@@ -23,6 +23,7 @@ fn lawful_digits(mcc1: u8, mcc2: u8, mcc3: u8, mnc1: u8, mnc2: u8, mnc3: Option<
         && mnc3.is_none_or(|digit| digit < 10)
 }
 
+// By an `if`, here and in `Lai::new`, since the value carries the proof that the test gives.
 fn plmn_when(mcc1: u8, mcc2: u8, mcc3: u8, mnc1: u8, mnc2: u8, mnc3: Option<u8>) -> Option<Plmn>
     ensures value { result ≡ plmn_when mcc1 mcc2 mcc3 mnc1 mnc2 mnc3 }
 {
