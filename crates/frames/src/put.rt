@@ -5,20 +5,17 @@ ghost use Rattle.frames.specs.declared.uplink.WriteFault.TheVariants.{NoRoom};
 
 use crate::WriteFault;
 
-// The octets of all parts, where there is room for them. Each part is held against the room that is left, since a sum of
+// The octets of all parts, where there is room for them. Each part is taken from the room that is left, since a sum of
 // lengths alone might not fit.
 #[tactic(auto, using(crate::proofs::Chains::part_within))]
 fn len_within(parts: &[&[u8]], room: usize) -> Result<usize, WriteFault>
     ensures value { result ≡ cond (nat_lt room (length (joined parts.now))) (Err NoRoom) (Ok (length (joined parts.now))) }
 {
-    let mut len = 0;
+    let mut left = room;
     for part in parts {
-        if part.len() > room - len {
-            return Err(WriteFault::NoRoom);
-        }
-        len += part.len();
+        left = left.checked_sub(part.len()).ok_or(WriteFault::NoRoom)?;
     }
-    Ok(len)
+    Ok(room - left)
 }
 
 // Writes the parts and answers their length; every later octet stays as it was, and all do where there is no room.
