@@ -59,8 +59,8 @@ impl Part for Lai {
     }
 }
 
-// What is given as a value has to be one, or the fault is told; a mark says none, and is no value. Matched, since with `map` and
-// `transpose` the proof of the fault did not close.
+// What is given as a value has to be one, or the fault is told; a mark is no value. A part may be none by the rules, so `Option`
+// stands in the result. Matched, since with `map` and `transpose` the proof of the fault did not close.
 pub(crate) fn part_of<P: Part>(
     given: Option<P::Given>,
     fault: Unlawful,

@@ -20,6 +20,7 @@ impl From<Status> for u8 {
     }
 }
 
+// From a number as it comes from outside, which may be no status.
 impl TryFrom<u8> for Status {
     type Error = Unlawful;
 

@@ -13,6 +13,7 @@ fn lawful_tmsi(bits: u32) -> bool
 }
 
 // `new`, `from_octets` and `octets` stay functions, as std's addresses have them: `Option` says all that is known of a failure.
+// Each type has its own `new`, by an `if`: their marks and octets differ, and a value carries the proof that its test gives.
 impl Tmsi {
     // A temporary identity, unless the bits are the mark.
     pub fn new(bits: u32) -> Option<Tmsi>
