@@ -71,18 +71,24 @@ module _ {X : Type 0} (same : X → X → Bool) where
           others = λ h. removed_others xs x once ((member_decides same decides x xs).1 h);
         }
 
-    -- a list that is built anew takes the next entry, unless it is the one to remove
+    -- a list that is built anew has not the next entry
+    pub removed_new : (xs kept : List X) (i : ℕ) (x y : X) → distinct same xs ≡ true → i < length xs → y ≡ get_or xs i y
+        → kept ≡ removed same (take i xs) x → member same y kept ≡ false
+    unfolding removed
+    removed_new xs kept i x y once within read is =
+        let whole : xs ≡ take i xs ++ y ∷ drop (i + 1) xs =
+        sym (take-append-drop i xs) ∙ ap (λ l. take i xs ++ l) (drop_more xs i y within ∙ ap (λ z. z ∷ drop (i + 1) xs) (sym read)) in
+        let front = fresh same decides (take i xs) (drop (i + 1) xs) y (ap (distinct same) (sym whole) ∙ once) in
+        ap (member same y) is ∙ member_kept_not (λ z. not (same z x)) y (take i xs) front
+
+    -- it takes that entry, unless it is the one to remove
     pub removed_next : (limit : ℕ) (xs kept : List X) (i : ℕ) (x y : X) → distinct same xs ≡ true → length xs ≤ limit → i < length xs
         → y ≡ get_or xs i y → same y x ≡ false → kept ≡ removed same (take i xs) x → length kept ≤ i
         → (added same limit kept y ≡ removed same (take (i + 1) xs) x) × (length (added same limit kept y) ≤ i + 1)
     unfolding removed
     removed_next limit xs kept i x y once few within read other is short =
         let p : X → Bool = λ z. not (same z x) in
-        let whole : xs ≡ take i xs ++ y ∷ drop (i + 1) xs =
-        sym (take-append-drop i xs) ∙ ap (λ l. take i xs ++ l) (drop_more xs i y within ∙ ap (λ z. z ∷ drop (i + 1) xs) (sym read)) in
-        let front = fresh same decides (take i xs) (drop (i + 1) xs) y (ap (distinct same) (sym whole) ∙ once) in
-        let new : member same y kept ≡ false = ap (member same y) is ∙ member_kept_not p y (take i xs) front in
-        let last = added_last same decides limit kept y new (omega arith) in
+        let last = added_last same decides limit kept y (removed_new xs kept i x y once within read is) (omega arith) in
         let more = filter_more p xs i y within ∙ ap (λ z. filter p (take i xs) ++ cond (p z) (z ∷ []) []) (sym read)
         ∙ ap (λ l. filter p (take i xs) ++ l) (cond-true (p y) (y ∷ []) [] (not_from_false _ other)) in (
           last ∙ ap (λ l. l ++ y ∷ []) is ∙ sym more,
@@ -96,3 +102,18 @@ module _ {X : Type 0} (same : X → X → Bool) where
         let p : X → Bool = λ z. not (same z x) in
         is ∙ sym (filter_more p xs i y within ∙ ap (λ z. filter p (take i xs) ++ cond (p z) (z ∷ []) []) (sym read)
         ∙ ap (λ l. filter p (take i xs) ++ l) (cond-false (p y) (y ∷ []) [] (not_from_true _ it)) ∙ append-nil (filter p (take i xs)))
+
+    -- the list so far, once the next entry is kept or is the one to remove
+    pub removed_more : (limit : ℕ) (xs kept made : List X) (i : ℕ) (x y : X) → distinct same xs ≡ true → length xs ≤ limit → i < length xs
+        → y ≡ get_or xs i y → kept ≡ removed same (take i xs) x → length kept ≤ i → made ≡ cond (same y x) kept (added same limit kept y)
+        → (made ≡ removed same (take (i + 1) xs) x) × (length made ≤ i + 1)
+    removed_more limit xs kept made i x y once few within read is short made-is =
+        elim (cases_Bool (same y x)) [
+          | inl e ↦
+              let same_as : made ≡ kept = made-is ∙ cond-true (same y x) kept (added same limit kept y) e in
+              (same_as ∙ removed_same xs kept i x y within read e is, omega (arith, ap length same_as))
+          | inr e ↦
+              let same_as : made ≡ added same limit kept y = made-is ∙ cond-false (same y x) kept (added same limit kept y) e in
+              let next = removed_next limit xs kept i x y once few within read e is short in
+              (same_as ∙ next.0, omega (arith, ap length same_as, next.1))
+        ]

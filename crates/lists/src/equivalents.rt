@@ -2,7 +2,7 @@
 ghost use Rattle.std.specs.Prelude.{◌≡◌, ◌+◌, ◌<◌, ◌≤◌, true, [], length};
 ghost use Rattle.vocabulary.specs.Same.{same_plmn};
 ghost use Rattle.lists.specs.Lists.{distinct};
-ghost use Rattle.lists.specs.Equivalents.{kept_one, equivalents_from, given_entries};
+ghost use Rattle.lists.specs.Equivalents.{followed_by, kept_one, equivalents_from, given_entries};
 ghost use Rattle.lists.specs.Laws.{Equates};
 
 use crate::{PlmnBar, Recent};
@@ -42,7 +42,7 @@ impl EquivalentPlmns {
         for entry in given {
             keep(&mut networks, *entry, forbidden);
         }
-        networks.add(accepted);
+        follow(&mut networks, accepted);
         EquivalentPlmns { networks }
     }
 }
@@ -55,7 +55,16 @@ fn keep(networks: &mut Recent<Plmn, 6>, entry: Option<Plmn>, forbidden: &PlmnBar
 {
     if let Some(plmn) = entry {
         if !forbidden.contains(&plmn) {
-            networks.add(plmn);
+            follow(networks, plmn);
         }
     }
+}
+
+// Makes a network the last, unless it is there.
+fn follow(networks: &mut Recent<Plmn, 6>, plmn: Plmn)
+    requires room { length networks.old < 6 }
+    ensures after { networks.new ≡ followed_by networks.old plmn }
+    ensures bound { length networks.new ≤ length networks.old + 1 }
+{
+    networks.add(plmn);
 }

@@ -1,5 +1,5 @@
 // What every list does, worked out once: it runs from the oldest entry to the newest, and no entry stands twice.
-ghost use Rattle.std.specs.Prelude.{◌≡◌, ◌-◌, ◌<◌, ◌≤◌, true, [], ◌++◌, Decides, length, take, drop, if◌then◌else◌, nat_lt};
+ghost use Rattle.std.specs.Prelude.{◌≡◌, ◌-◌, ◌<◌, ◌≤◌, ⊤, true, false, [], ◌++◌, Decides, length, take, drop, if◌then◌else◌, nat_lt};
 ghost use Rattle.std.specs.List.{ContainsAt as Has};
 ghost use Rattle.lists.specs.Lists.{member, distinct, added, removed};
 ghost use Rattle.lists.specs.Laws.{Adds, Removes};
@@ -31,8 +31,13 @@ impl<T: Place, const N: usize> Model for Recent<T, N> {
     ghost inverse_ok = { λ list held k. record { slots = slots_held held k; count = entries_held held k } };
 }
 
-// By hand: a derived one clones slot by slot, and its proof did not close.
+// By hand: a derived one clones slot by slot, and its proof did not close. As a derived one it gives the list itself, and
+// cannot fail.
 impl<T: Place, const N: usize> Clone for Recent<T, N> {
+    ghost is_clone = { λ list copy. copy ≡ list };
+
+    ghost is_infallible = { λ _. ⊤ };
+
     fn clone(&self) -> Result<Recent<T, N>, AllocError> {
         Ok(*self)
     }
@@ -83,9 +88,19 @@ impl<T: Place, const N: usize> Recent<T, N> {
         ensures after { self.new ≡ added T.PartialEq.eq N self.old x }
         ensures law { 0 < N → Adds N self.old x self.new }
     {
+        // What its entries promise holds of the list.
+        let _ = self.entries();
         if self.contains(&x) {
             return;
         }
+        self.push(x);
+    }
+
+    // An entry that is new becomes the newest; it is not looked for again.
+    fn push(&mut self, x: T)
+        requires new { member T.PartialEq.eq x self.old ≡ false }
+        ensures after { self.new ≡ added T.PartialEq.eq N self.old x }
+    {
         if self.slots.is_empty() {
             return;
         }
@@ -94,16 +109,26 @@ impl<T: Place, const N: usize> Recent<T, N> {
         self.count = at + 1;
     }
 
+    // An entry that is new becomes the newest, unless it is the one to remove.
+    fn keep(&mut self, entry: T, x: &T)
+        requires new { member T.PartialEq.eq entry self.old ≡ false }
+        ensures after { self.new ≡ (if T.PartialEq.eq entry x.now then self.old else added T.PartialEq.eq N self.old entry) }
+    {
+        if entry != *x {
+            self.push(entry);
+        }
+    }
+
     // An entry that is not there changes nothing.
     pub fn remove(&mut self, x: T)
         ensures after { self.new ≡ removed T.PartialEq.eq self.old x }
         ensures law { Removes self.old x self.new }
+        ensures bound { length self.new ≤ N }
+        ensures once { distinct T.PartialEq.eq self.new ≡ true }
     {
         let mut others = Recent::empty();
         for entry in self.entries() {
-            if *entry != x {
-                others.add(*entry);
-            }
+            others.keep(*entry, &x);
         }
         *self = others;
     }

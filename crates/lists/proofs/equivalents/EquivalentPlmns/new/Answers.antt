@@ -1,7 +1,7 @@
 use Rattle.std.proofs.Common.{[], sym, ap, ◌∙◌, subst, arith}
 use Rattle.lists.specs.Equivalents.{followed_by, kept_entries, given_entries}
 use Rattle.lists.specs.Laws.{Equates}
-use Rattle.lists.proofs.Equating.{added_with_room, entries_more, entries_all, equates}
+use Rattle.lists.proofs.Equating.{entries_more, entries_all, equates}
 use Rattle.lists.proofs.equivalents.EquivalentPlmns.new.Goals as goal
 
 pub loop-entry-preserved : goal.loop-entry-preserved
@@ -19,7 +19,7 @@ returns c =
     let kept =
     entries_all forbidden c.loop-entry.networks (kept_entries forbidden [] given) given c.loop-entry.entry-index (omega arith)
     c.loop-entry.invariant.0 in
-    let made = c.add.ensures.after ∙ added_with_room 6 c.loop-entry.networks c.args.accepted (omega arith) ∙ ap (λ l. followed_by l c.args.accepted) kept in
+    let made = c.follow.ensures.after ∙ ap (λ l. followed_by l c.args.accepted) kept in
     record {
       value = made;
       law = subst (Equates (given_entries given) forbidden c.args.accepted) (sym made) (equates given forbidden c.args.accepted);
