@@ -11,7 +11,7 @@ use Rattle.identities.specs.declared.values.Signature.{Signature}
 use Rattle.identities.specs.declared.values.Tmsi.{Tmsi}
 use Rattle.frames.specs.Causes.{cause_of}
 use Rattle.vocabulary.specs.Places.{rai_in, lai_in, rai_octets}
-use Rattle.frames.specs.Decoded.{accepted, onward, framed, packet_accept, attach_accept, attach_reject, detach_accept, update_accept, update_reject, location_accepted, location_accept, location_rejected, location_reject, begins, by_kind}
+use Rattle.frames.specs.Decoded.{accepted, onward, framed, packet_accept, attach_accept, attach_reject, detach_accept, update_accept, update_reject, location_accepted, location_accept, location_rejected, location_reject, begins, by_kind, decoded}
 use Rattle.frames.specs.Elements.{nothing, walk, judged, packet_found, packet_elements, circuit_found, circuit_elements}
 use Rattle.frames.specs.Laws.{NoMarks, NoMarkArea, NoMarkTmsi, NoMarkSignature, NoMarkIdentity, NoMarksPacket, AreaStands, Elements, PacketValues, CircuitValues, ValuesStand, Obeys, frame_kind, fixed_octets, side_of}
 use Rattle.frames.specs.declared.downlink.Downlink.{Downlink}
@@ -182,5 +182,11 @@ module _ (xs : List ℕ) (octets : (i : ℕ) → get_or xs i 0 < 256) (least : 2
       (either 0x05 0x02 _ _ location_accept_obeys
       (either 0x05 0x04 _ _ location_reject_obeys tt))))))
 
-pub read_obeys : (xs : List ℕ) (r : Result Downlink FrameFault) → ((i : ℕ) → Fits w8 (get_or xs i 0)) → 2 ≤ length xs → length xs ≤ 251 → r ≡ by_kind xs → IfOk r (λ m. Obeys m xs)
-read_obeys xs r octets least most e = subst (λ x. IfOk x (λ m. Obeys m xs)) (sym e) (by_kind_obeys xs (λ i. omega (arith, octets i)) least most)
+decoded_obeys : (xs : List ℕ) → ((i : ℕ) → get_or xs i 0 < 256) → IfOk (decoded xs) (λ m. Obeys m xs)
+decoded_obeys xs octets =
+    cond_both (ltb (length xs) 2) _ _ (λ r. IfOk r (λ m. Obeys m xs)) (λ _. tt)
+    (λ least. cond_both (ltb 251 (length xs)) _ _ (λ r. IfOk r (λ m. Obeys m xs)) (λ _. tt)
+    (λ most. by_kind_obeys xs octets (ltb-false _ _ least) (ltb-false _ _ most)))
+
+pub read_obeys : (xs : List ℕ) (r : Result Downlink FrameFault) → ((i : ℕ) → Fits w8 (get_or xs i 0)) → r ≡ decoded xs → IfOk r (λ m. Obeys m xs)
+read_obeys xs r octets e = subst (λ x. IfOk x (λ m. Obeys m xs)) (sym e) (decoded_obeys xs (λ i. omega (arith, octets i)))

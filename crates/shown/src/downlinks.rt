@@ -1,43 +1,43 @@
 // A frame by its name in the standard, and every field that was read.
-use crate::Shown;
+use crate::Worded;
 use frames::{Cause, Downlink, PacketAccept};
 use std::fmt;
 
-impl fmt::Display for Shown<Downlink> {
+impl fmt::Display for Worded<Downlink> {
     fn fmt<W: fmt::Write>(&self, f: &mut fmt::Formatter<W>) -> fmt::Result {
         match self.0 {
-            Downlink::AttachAccept(accept) => write!(f, "attach accept {}", Shown(accept)),
+            Downlink::AttachAccept(accept) => write!(f, "attach accept {}", Worded(accept)),
             Downlink::AttachReject(cause, elements) => {
-                write!(f, "attach reject {}{}", Shown(cause), Shown(elements))
+                write!(f, "attach reject {}{}", Worded(cause), Worded(elements))
             }
-            Downlink::DetachAccept(elements) => write!(f, "detach accept{}", Shown(elements)),
+            Downlink::DetachAccept(elements) => write!(f, "detach accept{}", Worded(elements)),
             Downlink::UpdateAccept(accept) => {
-                write!(f, "routing area update accept {}", Shown(accept))
+                write!(f, "routing area update accept {}", Worded(accept))
             }
             Downlink::UpdateReject(cause, elements) => {
                 write!(
                     f,
                     "routing area update reject {}{}",
-                    Shown(cause),
-                    Shown(elements)
+                    Worded(cause),
+                    Worded(elements)
                 )
             }
             Downlink::LocationAccept(lai, elements) => {
-                write!(f, "location updating accept lai={lai}{}", Shown(elements))
+                write!(f, "location updating accept lai={lai}{}", Worded(elements))
             }
             Downlink::LocationReject(cause, elements) => {
                 write!(
                     f,
                     "location updating reject {}{}",
-                    Shown(cause),
-                    Shown(elements)
+                    Worded(cause),
+                    Worded(elements)
                 )
             }
         }
     }
 }
 
-impl fmt::Display for Shown<PacketAccept> {
+impl fmt::Display for Worded<PacketAccept> {
     fn fmt<W: fmt::Write>(&self, f: &mut fmt::Formatter<W>) -> fmt::Result {
         let accept = self.0;
         write!(
@@ -45,12 +45,12 @@ impl fmt::Display for Shown<PacketAccept> {
             "t3312={}s rai={}{}",
             accept.t3312,
             accept.rai,
-            Shown(accept.elements)
+            Worded(accept.elements)
         )
     }
 }
 
-impl fmt::Display for Shown<Cause> {
+impl fmt::Display for Worded<Cause> {
     fn fmt<W: fmt::Write>(&self, f: &mut fmt::Formatter<W>) -> fmt::Result {
         write!(f, "cause={} ", u8::from(self.0))?;
         f.write_str(match self.0 {

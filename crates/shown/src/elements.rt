@@ -1,9 +1,9 @@
 // The elements behind the fixed fields of a frame, each with a space before it.
-use crate::Shown;
+use crate::Worded;
 use frames::{CircuitElements, MobileIdentity, PacketElements, PlmnList};
 use std::fmt;
 
-impl fmt::Display for Shown<PacketElements> {
+impl fmt::Display for Worded<PacketElements> {
     fn fmt<W: fmt::Write>(&self, f: &mut fmt::Formatter<W>) -> fmt::Result {
         let elements = self.0;
         if let Some(tmsi) = elements.p_tmsi {
@@ -15,11 +15,11 @@ impl fmt::Display for Shown<PacketElements> {
         if let Some(seconds) = elements.t3302 {
             write!(f, " t3302={seconds}s")?;
         }
-        write!(f, "{}", Shown(elements.equivalents))
+        write!(f, "{}", Worded(elements.equivalents))
     }
 }
 
-impl fmt::Display for Shown<CircuitElements> {
+impl fmt::Display for Worded<CircuitElements> {
     fn fmt<W: fmt::Write>(&self, f: &mut fmt::Formatter<W>) -> fmt::Result {
         let elements = self.0;
         match elements.identity {
@@ -27,12 +27,12 @@ impl fmt::Display for Shown<CircuitElements> {
             Some(MobileIdentity::Imsi(imsi)) => write!(f, " imsi={imsi}")?,
             None => {}
         }
-        write!(f, "{}", Shown(elements.equivalents))
+        write!(f, "{}", Worded(elements.equivalents))
     }
 }
 
 // The networks of a list, with commas between them.
-impl fmt::Display for Shown<Option<PlmnList>> {
+impl fmt::Display for Worded<Option<PlmnList>> {
     fn fmt<W: fmt::Write>(&self, f: &mut fmt::Formatter<W>) -> fmt::Result {
         let Some(list) = self.0 else {
             return Ok(());

@@ -1,10 +1,10 @@
 // A message by its name in the standard, and its octets, each with a space before it.
-use crate::Shown;
+use crate::Worded;
 use answers::Octets;
 use frames::Uplink;
 use std::fmt;
 
-impl fmt::Display for Shown<Uplink> {
+impl fmt::Display for Worded<Uplink> {
     fn fmt<W: fmt::Write>(&self, f: &mut fmt::Formatter<W>) -> fmt::Result {
         f.write_str(match self.0 {
             Uplink::AttachRequest(_, _) => "attach request",
@@ -19,7 +19,7 @@ impl fmt::Display for Shown<Uplink> {
     }
 }
 
-impl fmt::Display for Shown<Octets> {
+impl fmt::Display for Worded<Octets> {
     fn fmt<W: fmt::Write>(&self, f: &mut fmt::Formatter<W>) -> fmt::Result {
         for octet in self.0.as_slice() {
             write!(f, " {octet:02X}")?;

@@ -21,13 +21,13 @@ lai_made a = some_when _ (λ lawful. record { plmn = a.plmn; lac = a.lac; lawful
 some_same : {X : Type 0} (x y : X) → Some x ≡ Some y → x ≡ y
 some_same x y e = cc
 
-same_digits : (p q : Plmn)
+pub same_digits : (p q : Plmn)
     → (p.mcc1 ≡ q.mcc1) × (p.mcc2 ≡ q.mcc2) × (p.mcc3 ≡ q.mcc3) × (p.mnc1 ≡ q.mnc1) × (p.mnc2 ≡ q.mnc2) × (p.mnc3 ≡ q.mnc3)
     → p ≡ q
 same_digits p q e =
     some_same p q (plmn_made p ∙ (λ k. plmn_when (e.0 k) (e.1 k) (e.2 k) (e.3 k) (e.4 k) (e.5 k)) ∙ sym (plmn_made q))
 
-same_codes : (a b : Lai) → (a.plmn ≡ b.plmn) × (a.lac ≡ b.lac) → a ≡ b
+pub same_codes : (a b : Lai) → (a.plmn ≡ b.plmn) × (a.lac ≡ b.lac) → a ≡ b
 same_codes a b e = some_same a b (lai_made a ∙ (λ k. lai_when (e.0 k) (e.1 k)) ∙ sym (lai_made b))
 
 third_told : (m n : Option ℕ) → Decides (same_third m n) (m ≡ n)
