@@ -148,7 +148,6 @@ pub fn command_in(heap: Global, line: &str) -> Result<Command, AllocError>
 {
     match asked(heap, words_in(heap, line)?.as_slice()) {
         Ok(command) => Ok(command),
-        Err(Failed::Bad(reason)) => Ok(Command::Bad(reason)),
-        Err(Failed::Memory(error)) => Err(error),
+        Err(failed) => Ok(Command::Bad(failed.reason()?)),
     }
 }

@@ -61,7 +61,6 @@ pub(crate) fn write_line(heap: Global, text: &str) -> Result<Line, AllocError>
 {
     match asked(heap, words_in(heap, text)?.as_slice()) {
         Ok(message) => Ok(Line::Write(message)),
-        Err(Failed::Bad(reason)) => Ok(Line::Bad(reason)),
-        Err(Failed::Memory(error)) => Err(error),
+        Err(failed) => Ok(Line::Bad(failed.reason()?)),
     }
 }
