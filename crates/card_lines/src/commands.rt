@@ -3,6 +3,7 @@ ghost use Rattle.std.specs.Prelude.{◌≡◌, ◌∷◌, [], true, map, IfOk, S
 ghost use Rattle.spelling.specs.Failed.{UnlessShort};
 ghost use Rattle.spelling.specs.Octets.{octets_or_none};
 ghost use Rattle.spelling.specs.Sized.{octets_in};
+ghost use Rattle.spelling.specs.Words.{OfWords};
 ghost use Rattle.std.specs.Option.{ok_or};
 ghost use Rattle.card_lines.specs.Commands.{Asks, Loads, Writes, is_write, plmn_given, steps_of};
 ghost use Rattle.card_lines.specs.Lines.{AsksFor, AsksWords};
@@ -15,6 +16,7 @@ use crate::{BadCommand, Kind, Part};
 use card::{Card, Unlawful};
 use spelling::{Failed, words_in};
 use std::alloc::{AllocError, Global};
+use std::str::SplitWhitespace;
 use stores::Step;
 use vocabulary::Plmn;
 
@@ -67,7 +69,7 @@ fn one_step(heap: Global, step: Step) -> Result<Command, AllocError>
     Ok(Command::Steps(vec![in heap; step]?))
 }
 
-fn parts_in(heap: Global, words: &[&str]) -> Result<Parts, Failed<BadCommand>> {
+fn parts_in(heap: Global, words: SplitWhitespace<'_>) -> Result<Parts, Failed<BadCommand>> {
     let mut parts = Parts::default();
     for word in words {
         parts.take(heap, word)?;
@@ -111,13 +113,11 @@ fn image_in(heap: Global, text: &str) -> Result<[u8; 48], Failed<BadCommand>>
     Items { heap, fault }.octets(text)
 }
 
-// What a verb asks for with the words behind it.
-fn command_of(heap: Global, verb: Verb, words: &[&str]) -> Result<Command, Failed<BadCommand>>
+// What a verb other than `load` and `write` asks for with the words behind it; two of these are told as a word too many.
+fn short_command(heap: Global, verb: Verb, words: &[&str]) -> Result<Command, Failed<BadCommand>>
     ensures value { UnlessShort result (Asks verb (map (λ word. word.now) words.now)) }
 {
     match (verb, words) {
-        (Verb::Load, words) => load(heap, &parts_in(heap, words)?),
-        (Verb::Write, words) => Ok(write(heap, &parts_in(heap, words)?)?),
         (Verb::Eject, []) => Ok(one_step(heap, Step::Eject)?),
         (Verb::Damage, []) => Ok(Command::Damage),
         (Verb::Show, []) => Ok(Command::Show),
@@ -132,13 +132,32 @@ fn command_of(heap: Global, verb: Verb, words: &[&str]) -> Result<Command, Faile
     }
 }
 
-// What the words of a line ask for, or why they are not understood.
-fn asked(heap: Global, words: &[&str]) -> Result<Command, Failed<BadCommand>>
-    ensures value { UnlessShort result (AsksWords (map (λ word. word.now) words.now)) }
+// What a verb asks for with the words behind it, of which no more are looked at than it needs.
+fn command_of(
+    heap: Global,
+    verb: Verb,
+    mut words: SplitWhitespace<'_>,
+) -> Result<Command, Failed<BadCommand>>
+    ensures value { UnlessShort result (λ r. OfWords words.entry (λ all. Asks verb all r)) }
 {
-    match words {
-        [] => Ok(Command::Blank),
-        [verb, words @ ..] => command_of(heap, verb.parse()?, words),
+    match verb {
+        Verb::Load => load(heap, &parts_in(heap, words)?),
+        Verb::Write => Ok(write(heap, &parts_in(heap, words)?)?),
+        verb => match (words.next(), words.next()) {
+            (None, _) => short_command(heap, verb, &[]),
+            (Some(word), None) => short_command(heap, verb, &[word]),
+            (Some(word), Some(more)) => short_command(heap, verb, &[word, more]),
+        },
+    }
+}
+
+// What the words of a line ask for, or why they are not understood.
+fn asked(heap: Global, mut words: SplitWhitespace<'_>) -> Result<Command, Failed<BadCommand>>
+    ensures value { UnlessShort result (λ r. OfWords words.entry (λ all. AsksWords all r)) }
+{
+    match words.next() {
+        None => Ok(Command::Blank),
+        Some(verb) => command_of(heap, verb.parse()?, words),
     }
 }
 
@@ -146,9 +165,8 @@ fn asked(heap: Global, words: &[&str]) -> Result<Command, Failed<BadCommand>>
 pub fn command_in(heap: Global, line: &str) -> Result<Command, AllocError>
     ensures value { IfOk result (AsksFor line.now) }
 {
-    match asked(heap, words_in(heap, line)?.as_slice()) {
+    match asked(heap, words_in(line)) {
         Ok(command) => Ok(command),
-        Err(Failed::Bad(reason)) => Ok(Command::Bad(reason)),
-        Err(Failed::Memory(error)) => Err(error),
+        Err(failed) => Ok(Command::Bad(failed.reason()?)),
     }
 }

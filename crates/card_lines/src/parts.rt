@@ -21,16 +21,16 @@ pub(crate) struct Parts {
 }
 
 impl Items {
-    // The items that the records of both sides have.
+    // The items that the records of both sides have. The numbers first, so that no octets are spelled where one of these is bad.
     fn record<const N: usize>(
         self,
         [status, identity, area, key]: [&str; 4],
     ) -> Result<RecordFields<[u8; N]>, Failed<BadCommand>> {
         Ok(RecordFields {
             status: self.number(status)?,
+            key: self.number(key)?,
             identity: self.octets_or_dash(identity)?.map(identity_bits),
             area: self.octets_or_dash(area)?,
-            key: self.number(key)?,
         })
     }
 

@@ -6,7 +6,7 @@ ghost use Rattle.lines.specs.Writes.{Writes};
 
 use crate::commands::write_line;
 use answers::Line;
-use spelling::{Failed, spelled};
+use spelling::spelled;
 use std::alloc::{AllocError, Global};
 
 // The frame that octets in hexadecimal are, or why there are no octets.
@@ -16,8 +16,7 @@ fn frame_line(heap: Global, text: &[u8]) -> Result<Line, AllocError>
     match spelled(heap, text) {
         Ok(octets) if octets.is_empty() => Ok(Line::Blank),
         Ok(octets) => Ok(Line::Frame(octets)),
-        Err(Failed::Bad(reason)) => Ok(Line::Bad(reason.into())),
-        Err(Failed::Memory(error)) => Err(error),
+        Err(failed) => Ok(Line::Bad(failed.reason()?.into())),
     }
 }
 

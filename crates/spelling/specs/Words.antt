@@ -4,6 +4,8 @@ use Rattle.std.specs.Char.{is_whitespace, is_not_whitespace}
 use Rattle.std.specs.List.{before_first}
 use Rattle.std.specs.Str.{NoCharPasses, EmptyOrStartsWithPassing}
 use Rattle.std.specs.Result.{result_ok}
+use Rattle.std.specs.Str.Iter.{split_whitespace_rest}
+use Rattle.std.specs.declared.str.SplitWhitespace.{SplitWhitespace}
 
 -- a text is the word of what is found, and of nothing where none is
 abbrev pub Word : {X : Type 0} → (X → List ℕ) → List ℕ → Option X → Type 0
@@ -23,3 +25,7 @@ CutsInto text [] = NoCharPasses is_not_whitespace text
 CutsInto text (word ∷ words) =
     (gap : List ℕ) × (rest : List ℕ) × (text ≡ gap ++ (word ++ rest)) × (0 < length word) × NoCharPasses is_not_whitespace gap × NoCharPasses is_whitespace word
     × ((more : List ℕ) × EmptyOrStartsWithPassing is_whitespace rest more) × CutsInto rest words
+
+-- what holds of the words that are still to come
+abbrev pub OfWords : SplitWhitespace → (List (List ℕ) → Type 0) → Type 0
+OfWords left holds = (words : List (List ℕ)) × CutsInto (split_whitespace_rest left) words × holds words

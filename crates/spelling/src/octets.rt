@@ -86,7 +86,9 @@ pub fn octets_or_none(heap: Global, text: &[u8]) -> Result<Vec<u8>, AllocError>
 {
     match spelled(heap, text) {
         Ok(octets) => Ok(octets),
-        Err(Failed::Bad(_)) => Ok(Vec::new(heap)),
-        Err(Failed::Memory(error)) => Err(error),
+        Err(failed) => {
+            failed.reason()?;
+            Ok(Vec::new(heap))
+        }
     }
 }

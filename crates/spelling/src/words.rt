@@ -1,8 +1,9 @@
 // The words of a line.
-ghost use Rattle.std.specs.Prelude.{◌≡◌, map, IfOk};
-ghost use Rattle.spelling.specs.Words.{CutsInto, uncommented};
+ghost use Rattle.std.specs.Prelude.{◌≡◌};
+ghost use Rattle.std.specs.Str.Iter.{split_whitespace_rest};
+ghost use Rattle.spelling.specs.Words.{CutsInto, OfWords, uncommented};
 
-use std::alloc::{AllocError, Global};
+use std::str::SplitWhitespace;
 
 // What stands before a comment.
 fn uncommented(line: &str) -> &str
@@ -14,11 +15,13 @@ fn uncommented(line: &str) -> &str
     }
 }
 
-// The words of a line, up to a comment.
-pub fn words_in(heap: Global, line: &str) -> Result<Vec<&str>, AllocError>
-    ensures value { IfOk result (λ words. CutsInto (uncommented line.now) (map (λ word. word.now) words.items)) }
+// The words of a line, up to a comment, each found when it is asked for: who stops at a bad word looks at none behind it, and a
+// line of many words takes no memory for them.
+pub fn words_in(line: &str) -> SplitWhitespace<'_>
+    ensures value { OfWords result (CutsInto (uncommented line.now)) }
+    ensures rest { split_whitespace_rest result ≡ uncommented line.now }
 {
-    uncommented(line).split_whitespace().collect(heap)
+    uncommented(line).split_whitespace()
 }
 
 #[cfg(test)]
@@ -28,7 +31,7 @@ mod tests {
 
     #[test]
     fn comment_is_no_word_of_a_line(rt: HostRuntime) -> Result<(), Fail> {
-        let words = words_in(rt.alloc(), " copy  plain # into image")?;
+        let words = words_in(" copy  plain # into image").collect::<Vec<&str>>(rt.alloc())?;
         assert_eq!(rt; words.as_slice(), ["copy", "plain"].as_slice());
         Ok(())
     }
