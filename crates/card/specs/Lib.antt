@@ -1,3 +1,4 @@
+pub mod CardParts
 pub mod Given
 pub mod Laws
 pub mod Numbers

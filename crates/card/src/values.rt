@@ -1,6 +1,7 @@
 // What a card holds.
 use identities::{Imsi, KeyNumber, Signature, Tmsi};
 use lists::PlmnBar;
+use std::marker::Model;
 use vocabulary::{Lai, Rai};
 
 // How the last registration ended; the numbers stand in specs/Numbers.
@@ -34,4 +35,15 @@ pub struct Card {
     pub packet: PacketRecord,
     pub circuit: Record<Lai>,
     pub forbidden: PlmnBar,
+}
+
+// Its value is its parts. It has a model since its list has one: else it could not be passed by value and used again.
+impl Model for Card {
+    ghost use Rattle.card.specs.CardParts.{CardParts};
+
+    ghost Value = { CardParts };
+
+    ghost view = { λ card. record { imsi = card.imsi; packet = card.packet; circuit = card.circuit; forbidden = card.forbidden } };
+
+    ghost inverse = { λ card. record { imsi = card.imsi; packet = card.packet; circuit = card.circuit; forbidden = card.forbidden } };
 }

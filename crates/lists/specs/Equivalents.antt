@@ -4,6 +4,10 @@ use Rattle.vocabulary.specs.declared.values.Plmn.{Plmn}
 use Rattle.vocabulary.specs.Same.{same_plmn}
 use Rattle.lists.specs.Lists.{member}
 
+-- the equivalent networks, by which contracts see them
+pub record Equivalents : Type 0 where
+  pub networks : List Plmn
+
 -- a network follows the others, unless it is there
 abbrev pub followed_by : List Plmn → Plmn → List Plmn
 followed_by kept p = cond (member same_plmn p kept) kept (kept ++ p ∷ [])

@@ -4,6 +4,7 @@ ghost use Rattle.std.specs.List.{ContainsAt as Has};
 ghost use Rattle.lists.specs.Bars.{barred_circuit, barred_packet};
 
 use crate::{AreaBar, PlmnBar, Recent};
+use std::marker::Model;
 use vocabulary::Lai;
 
 // The lists that bar cells, beside that of the forbidden networks.
@@ -12,6 +13,17 @@ pub struct Bars {
     pub gprs: PlmnBar,
     pub regional: AreaBar,
     pub roaming: AreaBar,
+}
+
+// Their value is the lists. They have a model since each list has one: else they could not be passed by value and used again.
+impl Model for Bars {
+    ghost use Rattle.lists.specs.Bars.{Barring};
+
+    ghost Value = { Barring };
+
+    ghost view = { λ bars. record { gprs = bars.gprs; regional = bars.regional; roaming = bars.roaming } };
+
+    ghost inverse = { λ bars. record { gprs = bars.gprs; regional = bars.regional; roaming = bars.roaming } };
 }
 
 impl Bars {

@@ -6,12 +6,24 @@ ghost use Rattle.lists.specs.Equivalents.{followed_by, kept_one, equivalents_fro
 ghost use Rattle.lists.specs.Laws.{Equates};
 
 use crate::{PlmnBar, Recent};
+use std::marker::Model;
 use vocabulary::Plmn;
 
 // At most six networks: those that an accept gives, and last the one that accepts unless it is among them.
 #[derive(Clone, Copy)]
 pub struct EquivalentPlmns {
     networks: Recent<Plmn, 6>,
+}
+
+// Their value is the list. They have a model since the list has one: else they could not be passed by value and used again.
+impl Model for EquivalentPlmns {
+    ghost use Rattle.lists.specs.Equivalents.{Equivalents};
+
+    ghost Value = { Equivalents };
+
+    ghost view = { λ equivalents. record { networks = equivalents.networks } };
+
+    ghost inverse = { λ equivalents. record { networks = equivalents.networks } };
 }
 
 impl EquivalentPlmns {

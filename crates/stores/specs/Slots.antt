@@ -13,6 +13,10 @@ use Rattle.card.specs.declared.values.Record.{Record}
 abbrev pub Slot : Type 0
 Slot = Option Card
 
+-- a plain store, by which contracts see it
+pub record Plain : Type 0 where
+  pub card : Slot
+
 -- a question is refused exactly if the slot is empty, and answers one part
 abbrev pub asked : {X : Type 0} → (Card → X) → Slot → Result X StoreFault
 asked part slot = ok_or (option_map part slot) NoCard
