@@ -1,5 +1,5 @@
 -- The words that the library cuts a text into.
-use Rattle.std.proofs.Common.{◌≡◌, ℕ, ◌<◌, true, false, inl, inr, List, [], ◌∷◌, ◌++◌, length, None, Some, Bor, refl, sym, ap, subst, ◌∙◌, append_assoc, append-nil, length-append, arith}
+use Rattle.std.proofs.Common.{◌≡◌, ℕ, ◌<◌, true, false, inl, inr, List, [], ◌∷◌, ◌++◌, length, Some, Bor, refl, sym, ap, subst, ◌∙◌, append_assoc, append-nil, length-append, arith}
 use Rattle.std.proofs.lemmas.Bool.{and_parts, cases_Bool, not-false, not_from_true}
 use Rattle.std.proofs.lemmas.Str.{IsUtf8-past_char, NoCharPasses-nil, cons_from_encodes, length-encode, len_utf8_bounds}
 use Rattle.std.specs.Char.{encode_utf8, is_whitespace, is_not_whitespace}
@@ -98,10 +98,6 @@ text_cut text utf8 =
 -- the word that comes is the first one
 pub cut_word : (s t : SplitWhitespace) (x : Bor (List ℕ)) (words : List (List ℕ)) → split_whitespace_steps s (Some x) t → CutsInto (split_whitespace_rest t) words → CutsInto (split_whitespace_rest s) (x.now ∷ words)
 cut_word s t x words step cut = (step.0, split_whitespace_rest t, step.1, step.2, step.3, step.4, step.5, cut)
-
--- where none comes, there is none
-pub cut_end : (s t : SplitWhitespace) → split_whitespace_steps s None t → CutsInto (split_whitespace_rest s) []
-cut_end s t step = step.1
 
 past_all : (cs text rest : List ℕ) → IsUtf8 text → text ≡ encode_utf8_all cs ++ rest → IsUtf8 rest
 past_all [] text rest utf8 e = subst IsUtf8 e utf8
