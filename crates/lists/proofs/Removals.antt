@@ -5,9 +5,9 @@ use Rattle.std.proofs.lemmas.List.Elements.{filter_more}
 use Rattle.std.specs.List.{ContainsAt as Has}
 use Rattle.std.proofs.ByRecursion.{all-has, kept_by_passes}
 use Rattle.std.proofs.lemmas.Bool.{both_ways, not-true, not_from_true, not_from_false, and_parts, and_from, or_parts, or_from, or_cases, cases_Bool, cond-true, cond-false, cond_both, true≢false}
-use Rattle.lists.specs.Lists.{member, distinct, added, removed}
+use Rattle.lists.specs.Lists.{member, distinct, removed}
 use Rattle.lists.specs.Laws.{Removes}
-use Rattle.lists.proofs.Fresh.{fresh, added_last}
+use Rattle.lists.proofs.Fresh.{fresh}
 use Rattle.lists.proofs.Members.{member_decides, member_not, once_from_distinct}
 
 module _ {X : Type 0} (same : X → X → Bool) where
@@ -82,18 +82,14 @@ module _ {X : Type 0} (same : X → X → Bool) where
         ap (member same y) is ∙ member_kept_not (λ z. not (same z x)) y (take i xs) front
 
     -- it takes that entry, unless it is the one to remove
-    pub removed_next : (limit : ℕ) (xs kept : List X) (i : ℕ) (x y : X) → distinct same xs ≡ true → length xs ≤ limit → i < length xs
-        → y ≡ get_or xs i y → same y x ≡ false → kept ≡ removed same (take i xs) x → length kept ≤ i
-        → (added same limit kept y ≡ removed same (take (i + 1) xs) x) × (length (added same limit kept y) ≤ i + 1)
+    pub removed_next : (xs kept : List X) (i : ℕ) (x y : X) → i < length xs → y ≡ get_or xs i y → same y x ≡ false
+        → kept ≡ removed same (take i xs) x → kept ++ y ∷ [] ≡ removed same (take (i + 1) xs) x
     unfolding removed
-    removed_next limit xs kept i x y once few within read other is short =
+    removed_next xs kept i x y within read other is =
         let p : X → Bool = λ z. not (same z x) in
-        let last = added_last same decides limit kept y (removed_new xs kept i x y once within read is) (omega arith) in
         let more = filter_more p xs i y within ∙ ap (λ z. filter p (take i xs) ++ cond (p z) (z ∷ []) []) (sym read)
-        ∙ ap (λ l. filter p (take i xs) ++ l) (cond-true (p y) (y ∷ []) [] (not_from_false _ other)) in (
-          last ∙ ap (λ l. l ++ y ∷ []) is ∙ sym more,
-          omega (arith, ap length last, length_push kept y),
-        )
+        ∙ ap (λ l. filter p (take i xs) ++ l) (cond-true (p y) (y ∷ []) [] (not_from_false _ other)) in
+        ap (λ l. l ++ y ∷ []) is ∙ sym more
 
     pub removed_same : (xs kept : List X) (i : ℕ) (x y : X) → i < length xs → y ≡ get_or xs i y → same y x ≡ true
         → kept ≡ removed same (take i xs) x → kept ≡ removed same (take (i + 1) xs) x
@@ -104,16 +100,15 @@ module _ {X : Type 0} (same : X → X → Bool) where
         ∙ ap (λ l. filter p (take i xs) ++ l) (cond-false (p y) (y ∷ []) [] (not_from_true _ it)) ∙ append-nil (filter p (take i xs)))
 
     -- the list so far, once the next entry is kept or is the one to remove
-    pub removed_more : (limit : ℕ) (xs kept made : List X) (i : ℕ) (x y : X) → distinct same xs ≡ true → length xs ≤ limit → i < length xs
-        → y ≡ get_or xs i y → kept ≡ removed same (take i xs) x → length kept ≤ i → made ≡ cond (same y x) kept (added same limit kept y)
+    pub removed_more : (xs kept made : List X) (i : ℕ) (x y : X) → i < length xs
+        → y ≡ get_or xs i y → kept ≡ removed same (take i xs) x → length kept ≤ i → made ≡ cond (same y x) kept (kept ++ y ∷ [])
         → (made ≡ removed same (take (i + 1) xs) x) × (length made ≤ i + 1)
-    removed_more limit xs kept made i x y once few within read is short made-is =
+    removed_more xs kept made i x y within read is short made-is =
         elim (cases_Bool (same y x)) [
           | inl e ↦
-              let same_as : made ≡ kept = made-is ∙ cond-true (same y x) kept (added same limit kept y) e in
+              let same_as : made ≡ kept = made-is ∙ cond-true (same y x) kept (kept ++ y ∷ []) e in
               (same_as ∙ removed_same xs kept i x y within read e is, omega (arith, ap length same_as))
           | inr e ↦
-              let same_as : made ≡ added same limit kept y = made-is ∙ cond-false (same y x) kept (added same limit kept y) e in
-              let next = removed_next limit xs kept i x y once few within read e is short in
-              (same_as ∙ next.0, omega (arith, ap length same_as, next.1))
+              let same_as : made ≡ kept ++ y ∷ [] = made-is ∙ cond-false (same y x) kept (kept ++ y ∷ []) e in
+              (same_as ∙ removed_next xs kept i x y within read e is, omega (arith, ap length same_as, length_push kept y))
         ]

@@ -1,5 +1,5 @@
 // What every list does, worked out once: it runs from the oldest entry to the newest, and no entry stands twice.
-ghost use Rattle.std.specs.Prelude.{◌≡◌, ◌-◌, ◌<◌, ◌≤◌, ⊤, true, false, [], ◌++◌, Decides, length, take, drop, if◌then◌else◌, nat_lt};
+ghost use Rattle.std.specs.Prelude.{◌≡◌, ◌-◌, ◌<◌, ◌≤◌, ⊤, true, false, [], ◌∷◌, ◌++◌, Decides, length, take, drop, if◌then◌else◌, nat_lt};
 ghost use Rattle.std.specs.List.{ContainsAt as Has};
 ghost use Rattle.lists.specs.Lists.{member, distinct, added, removed};
 ghost use Rattle.lists.specs.Laws.{Adds, Removes};
@@ -88,19 +88,9 @@ impl<T: Place, const N: usize> Recent<T, N> {
         ensures after { self.new ≡ added T.PartialEq.eq N self.old x }
         ensures law { 0 < N → Adds N self.old x self.new }
     {
-        // What its entries promise holds of the list.
-        let _ = self.entries();
         if self.contains(&x) {
             return;
         }
-        self.push(x);
-    }
-
-    // An entry that is new becomes the newest; it is not looked for again.
-    fn push(&mut self, x: T)
-        requires new { member T.PartialEq.eq x self.old ≡ false }
-        ensures after { self.new ≡ added T.PartialEq.eq N self.old x }
-    {
         if self.slots.is_empty() {
             return;
         }
@@ -109,14 +99,25 @@ impl<T: Place, const N: usize> Recent<T, N> {
         self.count = at + 1;
     }
 
-    // An entry that is new becomes the newest, unless it is the one to remove.
+    // An entry that is new becomes the newest where there is room, unless it is the one to remove.
     fn keep(&mut self, entry: T, x: &T)
         requires new { member T.PartialEq.eq entry self.old ≡ false }
-        ensures after { self.new ≡ (if T.PartialEq.eq entry x.now then self.old else added T.PartialEq.eq N self.old entry) }
+        requires room { length self.old < N }
+        ensures after { self.new ≡ (if T.PartialEq.eq entry x.now then self.old else self.old ++ entry ∷ []) }
     {
         if entry != *x {
-            self.push(entry);
+            self.append(entry);
         }
+    }
+
+    // An entry that is new takes the first free slot.
+    fn append(&mut self, x: T)
+        requires new { member T.PartialEq.eq x self.old ≡ false }
+        requires room { length self.old < N }
+        ensures after { self.new ≡ self.old ++ x ∷ [] }
+    {
+        self.slots[self.count] = x;
+        self.count += 1;
     }
 
     // An entry that is not there changes nothing.

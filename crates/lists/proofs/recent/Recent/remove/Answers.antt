@@ -13,15 +13,17 @@ pub keep-requires : goal.keep-requires
 keep-requires g c =
     let known = c.entries-entry-items.ensures in (
       search rules,
-      removed_new g.T.PartialEq.eq g.met.T.Place.told c.entries-entry-items.result.now c.loop-entry.others c.loop-entry.entry-index c.args.x
-          c.entry-item.result known.once (omega arith) c.entry-item.is c.loop-entry.invariant.0,
+      (
+        removed_new g.T.PartialEq.eq g.met.T.Place.told c.entries-entry-items.result.now c.loop-entry.others c.loop-entry.entry-index c.args.x
+            c.entry-item.result known.once (omega arith) c.entry-item.is c.loop-entry.invariant.0,
+        omega (arith, c.loop-entry.invariant.1, known.bound),
+      ),
     )
 
 pub loop-entry-preserved : goal.loop-entry-preserved
 loop-entry-preserved g c =
-    let known = c.entries-entry-items.ensures in
-    removed_more g.T.PartialEq.eq g.met.T.Place.told g.row.N c.entries-entry-items.result.now c.loop-entry.others c.keep.new.self c.loop-entry.entry-index
-    c.args.x c.entry-item.result known.once known.bound (omega arith) c.entry-item.is c.loop-entry.invariant.0 c.loop-entry.invariant.1 c.keep.ensures.after
+    removed_more g.T.PartialEq.eq g.met.T.Place.told c.entries-entry-items.result.now c.loop-entry.others c.keep.new.self c.loop-entry.entry-index
+    c.args.x c.entry-item.result (omega arith) c.entry-item.is c.loop-entry.invariant.0 c.loop-entry.invariant.1 c.keep.ensures.after
 
 pub returns : goal.returns
 returns g c =
