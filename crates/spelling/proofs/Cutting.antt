@@ -1,8 +1,9 @@
 -- The words that the library cuts a text into.
-use Rattle.std.proofs.Common.{◌≡◌, ℕ, ◌<◌, true, false, inl, inr, List, [], ◌∷◌, ◌++◌, length, Some, Bor, refl, sym, ap, subst, ◌∙◌, append_assoc, append-nil, length-append, arith}
+use Rattle.std.proofs.Common.{◌≡◌, ℕ, ◌<◌, true, false, inl, inr, List, [], ◌∷◌, ◌++◌, length, map, None, Some, Ok, Err, Result, Vec, vec_items, vec_len, IfOk, Bor, refl, sym, ap, subst, ◌∙◌, append_assoc, append-nil, length-append, arith}
 use Rattle.std.proofs.lemmas.Bool.{and_parts, cases_Bool, not-false, not_from_true}
 use Rattle.std.proofs.lemmas.Str.{IsUtf8-past_char, NoCharPasses-nil, cons_from_encodes, length-encode, len_utf8_bounds}
 use Rattle.std.specs.Char.{encode_utf8, is_whitespace, is_not_whitespace}
+use Rattle.std.specs.Iterator.{Yields, DrainsIf}
 use Rattle.std.specs.Str.{EmptyOrStartsWithPassing, IsUtf8, NoCharPasses, NonePass, all_scalars, encode_utf8_all}
 use Rattle.std.specs.Str.Iter.{split_whitespace_rest, split_whitespace_steps}
 use Rattle.std.specs.declared.str.SplitWhitespace.{SplitWhitespace}
@@ -111,3 +112,18 @@ text_left s t x step utf8 =
     let behind = x.now ++ split_whitespace_rest t in
     let from_word = past_all step.3.0 (split_whitespace_rest s) behind utf8 (step.1 ∙ ap (λ z. z ++ behind) (sym step.3.1)) in
     past_all step.4.0 behind (split_whitespace_rest t) from_word (ap (λ z. z ++ split_whitespace_rest t) (sym step.4.1))
+
+-- ---- all words at once, for who collects them
+
+cut : (s : SplitWhitespace) (xs : List (Bor (List ℕ))) (t u : SplitWhitespace) → Yields split_whitespace_steps s xs t → split_whitespace_steps t None u → CutsInto (split_whitespace_rest s) (map (λ x. x.now) xs)
+cut s [] t u e stop = subst (λ z. NoCharPasses is_not_whitespace (split_whitespace_rest z)) (sym e) stop.1
+cut s (x ∷ xs) t u run stop = cut_word s run.0 x (map (λ x. x.now) xs) run.1 (cut run.0 xs t u run.2 stop)
+
+-- who collects what a text is cut into has its words
+pub cut_from_collect : {Z E : Type 0} (r : Result (Vec (Bor (List ℕ)) Z) E) (s : SplitWhitespace) (text : List ℕ) → split_whitespace_rest s ≡ text → IfOk r (λ v. (xs : List (Bor (List ℕ))) × DrainsIf split_whitespace_steps (Unit {0}) s xs × ((vec_items v ≡ xs) × (vec_len v ≡ length xs))) → IfOk r (λ v. CutsInto text (map (λ x. x.now) (vec_items v)))
+cut_from_collect (Ok v) s text e ran =
+    let stop = ran.1.2 tt in
+    let found = cut s ran.0 ran.1.0 stop.0 ran.1.1 stop.1 in
+    let at_text = subst (λ z. CutsInto z (map (λ (x : Bor (List ℕ)). x.now) ran.0)) e found in
+    subst (λ zs. CutsInto text (map (λ (x : Bor (List ℕ)). x.now) zs)) (sym ran.2.0) at_text
+cut_from_collect (Err e) s text f ran = tt
